@@ -1,0 +1,19 @@
+-- `floats::clamp01` meets its contract: each test is one of the definition's. Assumes nothing.
+use lib.Ieee.{ofBits}
+use Rattle.floats.proofs.clamp01.Statement.{statement}
+use Rattle.floats.proofs.clamp01.Tie as tie
+
+returns : tie.Need-returns
+unfolding ofBits
+returns c = rw (c .if1 .taken)
+
+returns-2 : tie.Need-returns-2
+unfolding ofBits
+returns-2 c = rw (c .before .if1 .left, c .if2 .taken)
+
+returns-3 : tie.Need-returns-3
+unfolding ofBits
+returns-3 c = rw (c .before .if1 .left, c .if2 .left)
+
+pub clamp01-spec : {M : Type 1} → statement M
+clamp01-spec = tie.close (tie.spec returns returns-2 returns-3)

@@ -1,0 +1,5 @@
+pub mod Linear
+pub mod Signs
+pub mod Clamp
+pub mod Sums
+pub mod Folds

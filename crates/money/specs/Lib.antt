@@ -1,0 +1,4 @@
+pub mod Words
+pub mod Scale
+pub mod Shares
+pub mod Costs
