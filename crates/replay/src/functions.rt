@@ -1,12 +1,15 @@
+// The functions that a vector can name, by crate. A signed argument or result is in two's complement, a float is its bits.
 use crate::answer::Answer;
-use crate::answer::one;
 use crate::answer::unknown;
 
+mod amounts;
+mod reals;
+
+// What the function of that name gives for the arguments x.
 pub fn answer(name: &[u8], x: [u64; 16]) -> Answer {
-    if check::same(name, b"saturating_add") {
-        let a = money::words::from_bits(x[0]);
-        let b = money::words::from_bits(x[1]);
-        return one(money::words::to_bits(money::sums::saturating_add(a, b)));
+    let a = amounts::answer(name, x);
+    if a.known {
+        return a;
     }
-    unknown()
+    reals::answer(name, x)
 }

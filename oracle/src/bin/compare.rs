@@ -1,0 +1,127 @@
+//! Holds the archive against the Rust: leaf functions over random arguments, calls over random
+//! books, whole and damaged, with lent slices that are too short, fit, or are longer.
+//!
+//!     compare [SEED [ARGUMENTS [BOOKS]]]
+
+use std::process::ExitCode;
+
+use oracle::book::Book;
+use oracle::calls::Answer;
+use oracle::damage::{Damage, damaged, mutated};
+use oracle::encode::encode;
+use oracle::generate;
+use oracle::library::{BookCall, book_calls, leaves};
+use oracle::random::Random;
+
+fn main() -> ExitCode {
+    let numbers: Vec<u64> = std::env::args().skip(1).filter_map(|word| word.parse().ok()).collect();
+    let number = |index: usize, usual: u64| numbers.get(index).copied().unwrap_or(usual);
+    let (seed, arguments, books) = (number(0, 1), number(1, 200_000), number(2, 500));
+    let differences = compare_leaves(seed, arguments as usize) + compare_books(seed, books);
+    println!("{differences} differences");
+    if differences == 0 { ExitCode::SUCCESS } else { ExitCode::FAILURE }
+}
+
+fn compare_leaves(seed: u64, count: usize) -> usize {
+    let mut differences = 0;
+    for leaf in leaves() {
+        match leaf.difference(&mut Random::new(seed), count) {
+            None => println!("{}: {count} arguments agree", leaf.name()),
+            Some(text) => {
+                println!("{} DIFFERS at {text}", leaf.name());
+                differences += 1;
+            }
+        }
+    }
+    differences
+}
+
+/// Every call on every book, until a call differs.
+fn compare_books(seed: u64, books: u64) -> usize {
+    let mut differences = 0;
+    for call in book_calls() {
+        let mut random = Random::new(seed);
+        let mut refused = 0;
+        let difference = (0..books).find_map(|_| {
+            let seed = random.number();
+            let outcome = compare_call(&call, seed);
+            refused += u64::from(outcome.is_ok_and(|number| number != 0));
+            outcome.err().map(|()| seed)
+        });
+        match difference {
+            None => println!("{}: {books} books agree, {refused} refused", call.rust.name),
+            Some(seed) => {
+                println!("{} DIFFERS on book {seed}", call.rust.name);
+                explain(&call, seed);
+                differences += 1;
+            }
+        }
+    }
+    differences
+}
+
+/// The bytes of a book and what the call is asked, by seed.
+fn question(call: &BookCall, random: &mut Random) -> (Vec<u8>, Vec<u64>) {
+    let book: Book = generate::book("any", random.number()).unwrap_or_default();
+    let asked = generate::asked(call.rust, &book, random);
+    let damage = random.pick(&Damage::ALL);
+    let bytes = match (random.below(8), damaged(&book, damage, random)) {
+        (0, Some((bytes, _))) => bytes,
+        (1, _) => mutated(encode(&book), random),
+        _ => encode(&book),
+    };
+    (bytes, asked)
+}
+
+/// How many numbers to lend where that many are needed.
+fn lent_length(needed: usize, random: &mut Random) -> usize {
+    let any = random.below(needed as u64 + 1) as usize;
+    random.pick(&[needed, needed, needed + 1, needed + 40, needed.saturating_sub(1), any, 0])
+}
+
+type Side = (Answer, Vec<u64>);
+
+/// Both sides' answers and lent numbers, the Rust's first.
+fn both_sides(call: &BookCall, seed: u64) -> (Side, Side) {
+    let mut random = Random::new(seed);
+    let (bytes, asked) = question(call, &mut random);
+    let rows = call.rust.rows(&bytes, &asked);
+    let length = lent_length(rows.as_ref().map_or(8, Vec::len), &mut random);
+    let lent: Vec<u64> = (0..length).map(|_| random.number()).collect();
+    let (mut expected, mut found) = (lent.clone(), lent);
+    let rust = call.rust.lend(&rows, &mut expected);
+    let archive = call.answer(&bytes, &asked, &mut found);
+    ((rust, expected), (archive, found))
+}
+
+/// The number that both return, if all of their answers and lent numbers agree.
+fn compare_call(call: &BookCall, seed: u64) -> Result<u64, ()> {
+    let (rust, archive) = both_sides(call, seed);
+    if rust == archive { Ok(rust.0.0) } else { Err(()) }
+}
+
+fn explain(call: &BookCall, seed: u64) {
+    let (bytes, asked) = question(call, &mut Random::new(seed));
+    let ((rust, expected), (archive, found)) = both_sides(call, seed);
+    println!("  {} bytes, asked {asked:?}, lent {}", bytes.len(), found.len());
+    println!("  returned {archive:?}, the Rust {rust:?}");
+    let first = expected.iter().zip(&found).position(|(a, b)| a != b);
+    if let Some(k) = first {
+        println!("  number {k} is {}, the Rust's {}", found[k], expected[k]);
+    }
+    keep(&bytes, call.rust.name);
+}
+
+/// Prints a short book, and leaves a long one in the folder for temporary files.
+fn keep(bytes: &[u8], name: &str) {
+    if bytes.len() <= 2_000 {
+        let digits: String = bytes.iter().map(|byte| format!("{byte:02x}")).collect();
+        println!("  book {digits}");
+        return;
+    }
+    let path = std::env::temp_dir().join(format!("{name}.book"));
+    match std::fs::write(&path, bytes) {
+        Ok(()) => println!("  the book is in {}", path.display()),
+        Err(error) => println!("  the book cannot be kept: {error}"),
+    }
+}

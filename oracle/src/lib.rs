@@ -1,0 +1,20 @@
+//! The test oracle of the stage value engine: the Rust's money side behind a reading of the book
+//! of its own, with what generates, damages and compares books.
+
+pub mod arguments;
+pub mod book;
+pub mod calls;
+pub mod damage;
+pub mod encode;
+pub mod generate;
+pub mod leaf;
+#[cfg(feature = "library")]
+pub mod library;
+pub mod programme;
+pub mod project;
+pub mod random;
+pub mod sample;
+pub mod selftest;
+pub mod status;
+pub mod traps;
+pub mod vectors;

@@ -1,0 +1,87 @@
+//! The oracle's commands.
+
+use std::io::{Read, Write, stdin, stdout};
+use std::process::ExitCode;
+
+use oracle::damage::Damage;
+use oracle::{generate, sample, selftest, status, traps, vectors};
+
+const USAGE: &str = "oracle answer CALL [ASKED..] < BOOK
+oracle status < BOOK
+oracle traps FILE
+oracle generate KIND SEED > BOOK
+oracle sample KIND SEED
+oracle vectors SEED COUNT
+oracle selftest [BOOKS]";
+
+fn main() -> ExitCode {
+    let words: Vec<String> = std::env::args().skip(1).collect();
+    let words: Vec<&str> = words.iter().map(String::as_str).collect();
+    let done = match words[..] {
+        ["answer", ..] if words.len() > 1 => answer(&words[1..].join(" ")),
+        ["status"] => print(status::text(&standard_input()).as_bytes()),
+        ["traps", file] => check_traps(file),
+        ["generate", kind, seed] => {
+            number(seed).and_then(|seed| sample::bytes(kind, seed)).and_then(|bytes| print(&bytes))
+        }
+        ["sample", kind, seed] => number(seed)
+            .and_then(|seed| sample::text(kind, seed))
+            .and_then(|text| print(text.as_bytes())),
+        ["vectors", seed, count] => number(seed)
+            .zip(number(count))
+            .and_then(|(seed, count)| print(vectors::text(seed, count as usize).as_bytes())),
+        ["selftest"] => selftest(400),
+        ["selftest", books] => number(books).and_then(selftest),
+        _ => None,
+    };
+    match done {
+        Some(true) => ExitCode::SUCCESS,
+        Some(false) => ExitCode::FAILURE,
+        None => {
+            eprintln!("{USAGE}");
+            eprintln!("kinds: {}", kinds().join(" "));
+            ExitCode::from(2)
+        }
+    }
+}
+
+fn kinds() -> Vec<&'static str> {
+    let damages = Damage::ALL.iter().map(|damage| damage.name());
+    generate::kinds().chain(damages).chain([sample::MUTATED]).collect()
+}
+
+fn number(word: &str) -> Option<u64> {
+    word.parse().ok()
+}
+
+fn standard_input() -> Vec<u8> {
+    let mut bytes = Vec::new();
+    stdin().lock().read_to_end(&mut bytes).expect("standard input can be read");
+    bytes
+}
+
+/// Prints; a reader that has seen enough is no failure.
+fn print(bytes: &[u8]) -> Option<bool> {
+    let _ = stdout().lock().write_all(bytes);
+    Some(true)
+}
+
+fn answer(words: &str) -> Option<bool> {
+    let line = traps::answer(&standard_input(), words)?;
+    print(format!("{line}\n").as_bytes())
+}
+
+fn check_traps(file: &str) -> Option<bool> {
+    let text = std::fs::read_to_string(file).ok()?;
+    let outcome = traps::check(&text);
+    outcome.differences.iter().for_each(|text| println!("{text}"));
+    let differ = outcome.differences.len();
+    println!("{} books, {} lines agree, {differ} differ", outcome.books, outcome.agreed);
+    Some(differ == 0)
+}
+
+fn selftest(books: u64) -> Option<bool> {
+    let tally = selftest::run(books);
+    println!("{} failed", tally.failed);
+    Some(tally.failed == 0)
+}
