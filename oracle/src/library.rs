@@ -61,9 +61,9 @@ fn or_none(value: Option<i32>) -> i64 {
     value.map_or(NONE, i64::from)
 }
 
-/// Year, month and day in one number, the year shifted above zero.
+/// Year, month and day in one number: month and day above the year's bits.
 fn date_number((year, month, day): (i32, u32, u32)) -> i64 {
-    (i64::from(year) + 10_000) * 10_000 + i64::from(month) * 100 + i64::from(day)
+    ((i64::from(month) * 100 + i64::from(day)) << 20).wrapping_add(i64::from(year))
 }
 
 /// Declares the exported leaf functions that the archive has, and makes their table.

@@ -7,4 +7,3 @@ pub mod Bounds
 pub mod Words
 pub mod Laws
 pub mod IndexLaws
-pub mod ReferenceCases

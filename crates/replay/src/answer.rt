@@ -38,6 +38,14 @@ pub fn three(x: u64, y: u64, z: u64) -> Answer {
     }
 }
 
+pub fn four(x: u64, y: u64, z: u64, w: u64) -> Answer {
+    Answer {
+        known: true,
+        values: [x, y, z, w],
+        count: 4,
+    }
+}
+
 // Whether the numbers of a line behind its sign are those of the answer.
 pub fn agrees(a: Answer, values: [u64; 16], given: usize, count: usize) -> bool {
     if !a.known {

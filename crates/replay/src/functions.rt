@@ -1,8 +1,8 @@
 // The functions that a vector can name, by crate. A signed argument or result is in two's complement, a float is its bits.
 use crate::answer::Answer;
-use crate::answer::unknown;
 
 mod amounts;
+mod days;
 mod reals;
 
 // What the function of that name gives for the arguments x.
@@ -11,5 +11,9 @@ pub fn answer(name: &[u8], x: [u64; 16]) -> Answer {
     if a.known {
         return a;
     }
-    reals::answer(name, x)
+    let f = reals::answer(name, x);
+    if f.known {
+        return f;
+    }
+    days::answer(name, x)
 }

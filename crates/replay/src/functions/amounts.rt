@@ -44,7 +44,11 @@ fn cost_answer(name: &[u8], x: [u64; 16]) -> Answer {
     }
     if check::same(name, b"cost_add") {
         let sum = c.add(cost(x[3], x[4], x[5]));
-        return three(to_bits(sum.budget), to_bits(sum.actual), to_bits(sum.remaining));
+        return three(
+            to_bits(sum.budget),
+            to_bits(sum.actual),
+            to_bits(sum.remaining),
+        );
     }
     unknown()
 }

@@ -50,7 +50,10 @@ pub fn answer(name: &[u8], x: [u64; 16]) -> Answer {
         return one(floats::bits(floats::clamp01(f)));
     }
     if check::same(name, b"product") {
-        let p = floats::Index { present: true, value: f };
+        let p = floats::Index {
+            present: true,
+            value: f,
+        };
         let q = floats::Index {
             present: true,
             value: float(x[1]),

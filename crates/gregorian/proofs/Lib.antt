@@ -1,0 +1,6 @@
+pub mod Below
+pub mod Leap
+pub mod Laws
+pub mod Era
+pub mod MarchYear
+pub mod Counts

@@ -1,0 +1,4 @@
+pub mod Computus
+pub mod Ranges
+pub mod Search
+pub mod Cases

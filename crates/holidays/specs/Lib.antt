@@ -1,0 +1,2 @@
+pub mod Easter
+pub mod Holiday
