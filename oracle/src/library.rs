@@ -126,13 +126,15 @@ leaves! {
         Random::any_year, |year| or_none(rust::easter(year)), |year| parts_easter(year);
 }
 
+type Verdict = unsafe extern "C" fn(*const u8, usize, *mut u64) -> u64;
 type Plain = unsafe extern "C" fn(*const u8, usize, *mut u64, usize, *mut u64) -> u64;
 type One = unsafe extern "C" fn(*const u8, usize, u64, *mut u64, usize, *mut u64) -> u64;
 type Two = unsafe extern "C" fn(*const u8, usize, u64, u64, *mut u64, usize, *mut u64) -> u64;
 
-/// An exported call, by how many values it is asked.
+/// An exported call, by how many values it is asked; the verdict is lent nothing.
 #[derive(Clone, Copy)]
 pub enum Export {
+    Verdict(Verdict),
     Plain(Plain),
     One(One),
     Two(Two),
@@ -153,6 +155,7 @@ impl BookCall {
         // The book and the lent numbers are slices of those lengths, `at` is one number.
         let returned = unsafe {
             match self.export {
+                Export::Verdict(call) => call(bytes, length, &mut at),
                 Export::Plain(call) => call(bytes, length, lent, numbers, &mut at),
                 Export::One(call) => call(bytes, length, asked[0], lent, numbers, &mut at),
                 Export::Two(call) => {
@@ -168,6 +171,8 @@ impl BookCall {
 macro_rules! book_calls {
     ($($export:literal $name:ident $call:literal $kind:ident($($asked:ident),*);)*) => {
         unsafe extern "C" {
+            #[cfg(export = "surukeva_verdict")]
+            fn surukeva_verdict(book: *const u8, length: usize, at: *mut u64) -> u64;
             $(#[cfg(export = $export)]
             fn $name(book: *const u8, length: usize, $($asked: u64,)*
                 out: *mut u64, numbers: usize, at: *mut u64) -> u64;)*
@@ -178,6 +183,11 @@ macro_rules! book_calls {
         pub fn book_calls() -> Vec<BookCall> {
             #[allow(unused_mut)]
             let mut table = Vec::new();
+            #[cfg(export = "surukeva_verdict")]
+            table.push(BookCall {
+                rust: crate::calls::named("verdict").expect("a call of the base"),
+                export: Export::Verdict(surukeva_verdict),
+            });
             $(#[cfg(export = $export)] table.push(BookCall {
                 rust: crate::calls::named($call).expect("a call of the base"),
                 export: Export::$kind($name),
@@ -188,7 +198,6 @@ macro_rules! book_calls {
 }
 
 book_calls! {
-    "surukeva_verdict" surukeva_verdict "verdict" Plain();
     "surukeva_costs" surukeva_costs "costs" Plain();
     "surukeva_project_cost" surukeva_project_cost "project_cost" Plain();
     "surukeva_actual_by_kind" surukeva_actual_by_kind "actual_by_kind" Plain();

@@ -65,7 +65,9 @@ fn question(call: &BookCall, random: &mut Random) -> (Vec<u8>, Vec<u64>) {
     let book: Book = generate::book("any", random.number()).unwrap_or_default();
     let asked = generate::asked(call.rust, &book, random);
     let damage = random.pick(&Damage::ALL);
-    let bytes = match (random.below(8), damaged(&book, damage, random)) {
+    // A call is mostly asked of whole books, the verdict mostly of damaged ones.
+    let whole = if call.rust.name == "verdict" { 3 } else { 8 };
+    let bytes = match (random.below(whole), damaged(&book, damage, random)) {
         (0, Some((bytes, _))) => bytes,
         (1, _) => mutated(encode(&book), random),
         _ => encode(&book),

@@ -1,0 +1,3 @@
+pub mod Groups
+pub mod Marks
+pub mod Signed

@@ -1,0 +1,20 @@
+-- `wrong_group` meets its contract: each return follows from the tests before it.
+use borrow.Author.Tests.{eq-eqb, ne-eqb}
+use Rattle.format.specs.Number.{wrongGroup}
+use Rattle.fields.proofs.numbers.wrong_group.Statement.{statement}
+use Rattle.fields.proofs.numbers.wrong_group.Tie as tie
+
+returns : tie.Need-returns
+unfolding wrongGroup
+returns c = simp (eq-eqb _ _ (c .if1 .taken))
+
+returns-2 : tie.Need-returns-2
+unfolding wrongGroup
+returns-2 c = simp (ne-eqb _ _ (c .before .if1 .left), eq-eqb _ _ (c .if2 .taken))
+
+returns-3 : tie.Need-returns-3
+unfolding wrongGroup
+returns-3 c = simp (ne-eqb _ _ (c .before .if1 .left), ne-eqb _ _ (c .if2 .left))
+
+pub wrong-group-spec : {M : Type 1} → statement M
+wrong-group-spec = tie.close (tie.spec returns returns-2 returns-3)
