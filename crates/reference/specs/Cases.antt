@@ -3,12 +3,16 @@
 use Prim.Native.Nat.{ℕ}
 use mathlib.Core.Path.{_≡_}
 use mathlib.Core.List.{List, [], _∷_, map}
+use mathlib.Core.Option.{none, some}
 use lib.Ieee.{ofInt, mul, div, lt}
 use lib.IntN.{ℤ, pos, negℤ}
 use Rattle.money.specs.Shares.{shareOf as shareOfDay, sharesFrom, spread}
 use Rattle.money.specs.Scale.{inRange, scaledBy, pricedAt}
 use Rattle.floats.specs.Rounding.{rounded, wholeOf}
 use Rattle.floats.specs.Figures.{one, shareOf, earnedOf}
+use Rattle.format.specs.Book.{Price}
+use Rattle.model.specs.Lists.{keep}
+use Rattle.model.specs.Costs.{later, priceAmong, priceOn}
 use Rattle.dates.specs.declared.Day.{Day}
 use Rattle.dates.specs.declared.Day.the-variants.{At, Nothing}
 use Rattle.dates.specs.Date.{fromYmd}
@@ -31,6 +35,17 @@ pub record Case : Type 0 where
 abbrev pub alone : ℤ → List ℤ
 alone z = z ∷ []
 
+-- a price without a day, and one from a day on
+abbrev pub undated : ℕ → Price
+undated z = record { from = none; perUnit = pos z }
+
+abbrev pub since : ℕ → ℕ → Price
+since day z = record { from = some day; perUnit = pos z }
+
+-- undated 100, then 200 and 300 from 20,000
+abbrev pub threePrices : List Price
+threePrices = undated 100 ∷ since 20000 200 ∷ since 20000 300 ∷ []
+
 abbrev pub dayIn : Day → List ℤ
 dayIn (At z) = z ∷ []
 dayIn Nothing = []
@@ -49,6 +64,11 @@ cases =
     ∷ record { number = 5; gives = alone (pricedAt (pos MAX) (pos 100)); expected = alone (pos MAX) }
     -- its negative at 101
     ∷ record { number = 6; gives = alone (pricedAt (minus MAX) (pos 101)); expected = alone (pos MAX) }
+    -- undated 100, then 200 and 300 from 20,000: on the day before, and on the day
+    ∷ record { number = 7; gives = alone (priceOn threePrices 19999); expected = alone (pos 100) }
+    ∷ record { number = 7; gives = alone (priceOn threePrices 20000); expected = alone (pos 300) }
+    -- 70 from 20,010, 60 from 20,000: before both
+    ∷ record { number = 8; gives = alone (priceOn (since 20010 70 ∷ since 20000 60 ∷ []) 19000); expected = alone (pos 70) }
     -- budget −5 half done
     ∷ record { number = 9; gives = alone (earnedOf (minus 5) (shareOf (pos 5000))); expected = alone (minus 3) }
     -- budget 10^16 completed
@@ -61,5 +81,5 @@ cases =
     ∷ []
 
 pub reference-cases : map (λ (c : Case). c .gives) cases ≡ map (λ (c : Case). c .expected) cases
-unfolding cases shareOfDay sharesFrom inRange scaledBy rounded wholeOf ofInt mul div lt
+unfolding cases later priceAmong priceOn keep shareOfDay sharesFrom inRange scaledBy rounded wholeOf ofInt mul div lt
 reference-cases = rw (leap-day-2000, no-leap-day-2100, easter-2024)

@@ -1,0 +1,84 @@
+-- A day list is the working dates of its span, rising; without one, the first date alone.
+use Prim.Native.Nat.{ℕ, zero, suc, _+_, _-_, _≤_, _<_}
+use mathlib.Core.Path.{_≡_, refl}
+use mathlib.Core.Logic.{_↔_}
+use mathlib.Core.Bool.{Bool, true, false}
+use mathlib.Core.List.{List, [], _∷_, List·Memᴰ, List·Memᴰ·head, List·Memᴰ·not-nil}
+use native.Mathlib.Omega.{arith}
+use lib.ListN.{length}
+use Rattle.format.specs.Book.{Calendar}
+use Rattle.format.specs.InRange.{Rising}
+use Rattle.model.specs.Lists.{span, consIf, keep}
+use Rattle.model.specs.Calendar.{isWorking}
+use Rattle.model.specs.Days.{datesBetween, workingDays, orAlone, dayList}
+use Rattle.model.proofs.Lists.{span-in, in-span, keep-in, in-keep, keep-rises}
+
+-- dates that pass a test, between two dates
+module _ (p : ℕ → Bool) (from to : ℕ) where
+  pub kept-between : (d : ℕ) → List·Memᴰ d (keep p (datesBetween from to)) → (from ≤ d) × (d ≤ to) × (p d ≡ true)
+  unfolding datesBetween
+  kept-between d m =
+      let k = keep-in p d (datesBetween from to) m in
+      let s = span-in from (to + 1 - from) d (k .0) in
+      (s .0, omega arith, k .1)
+
+  pub between-kept : (d : ℕ) → from ≤ d → d ≤ to → p d ≡ true → List·Memᴰ d (keep p (datesBetween from to))
+  unfolding datesBetween
+  between-kept d h l e = in-keep p d (datesBetween from to) (in-span from (to + 1 - from) d h (omega arith)) e
+
+module _ (c : Calendar) (from to : ℕ) where
+  -- the working days are the dates of the span that work
+  pub working-days : (d : ℕ) → List·Memᴰ d (workingDays c from to) ↔ ((from ≤ d) × (d ≤ to) × (isWorking c d ≡ true))
+  unfolding workingDays
+  working-days d = (kept-between (isWorking c) from to d, λ w. between-kept (isWorking c) from to d (w .0) (w .1) (w .2))
+
+  pub working-days-rise : Rising (workingDays c from to)
+  unfolding workingDays datesBetween
+  working-days-rise = keep-rises (isWorking c) from (to + 1 - from)
+
+  -- ---- the day list: where some date works, these; else the first date alone
+  pub day-list-working : (d : ℕ) → from ≤ d → d ≤ to → isWorking c d ≡ true → dayList c from to ≡ workingDays c from to
+  unfolding dayList
+  day-list-working d h l e = go (workingDays c from to) (working-days d .1 (h, l, e))
+    where
+      go : (l : List ℕ) → List·Memᴰ d l → orAlone from l ≡ l
+      go [] m = absurd (List·Memᴰ·not-nil m)
+      go (e ∷ es) m = refl
+
+  pub day-list-alone : ((d : ℕ) → from ≤ d → d ≤ to → isWorking c d ≡ true → ⊥) → dayList c from to ≡ from ∷ []
+  unfolding dayList
+  day-list-alone none = go (workingDays c from to) (λ d m. let w = working-days d .0 m in none d (w .0) (w .1) (w .2))
+    where
+      go : (l : List ℕ) → ((d : ℕ) → List·Memᴰ d l → ⊥) → orAlone from l ≡ from ∷ []
+      go [] h = refl
+      go (d ∷ ds) h = absurd (h d (List·Memᴰ·head refl))
+
+  -- of one date, or of none, the first date, whether it works or not
+  pub day-list-one : to ≤ from → dayList c from to ≡ from ∷ []
+  unfolding dayList workingDays datesBetween span keep
+  day-list-one h = go (to + 1 - from) (omega arith)
+    where
+      one : (works : Bool) → orAlone from (consIf works from []) ≡ from ∷ []
+      one true = refl
+      one false = refl
+
+      go : (n : ℕ) → n ≤ 1 → orAlone from (keep (isWorking c) (span from n)) ≡ from ∷ []
+      go zero l = refl
+      go (suc zero) l = one (isWorking c from)
+      go (suc (suc n)) l = absurd (omega arith)
+
+  pub day-list-some : 0 < length (dayList c from to)
+  unfolding dayList
+  day-list-some = go (workingDays c from to)
+    where
+      go : (l : List ℕ) → 0 < length (orAlone from l)
+      go [] = omega arith
+      go (d ∷ ds) = omega arith
+
+  pub day-list-rises : Rising (dayList c from to)
+  unfolding dayList
+  day-list-rises = go (workingDays c from to) working-days-rise
+    where
+      go : (l : List ℕ) → Rising l → Rising (orAlone from l)
+      go [] r j k m h = absurd (omega arith)
+      go (d ∷ ds) r j k m h = r j k m h

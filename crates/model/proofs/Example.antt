@@ -1,0 +1,58 @@
+-- Document 01's example book: what its activities cost.
+use mathlib.Core.Path.{_≡_}
+use mathlib.Core.List.{[], _∷_, flatMap, zipWith}
+use mathlib.Core.Option.{orElse}
+use native.Mathlib.Omega.{arith}
+use lib.IntN.{pos}
+use Rattle.integer.specs.Folds.{saturated}
+use Rattle.holidays.specs.Holiday.{any}
+use Rattle.money.specs.declared.costs.Cost.{Cost}
+use Rattle.money.specs.Shares.{shareOf, sharesFrom}
+use Rattle.format.specs.Book.{Calendar}
+use Rattle.format.proofs.Example.{example}
+use Rattle.model.specs.Lists.{span, keep}
+use Rattle.model.specs.Lookup.{calendarAt}
+use Rattle.model.specs.Calendar.{isWorking, exceptionOn, usuallyWorks, isRegionHoliday, worksOn, calendarOf}
+use Rattle.model.specs.Days.{datesBetween, workingDays, dayList, plannedDays, daysSince, actualDays, remainingFrom, daysLeft, remainingDays, daysOf}
+use Rattle.model.specs.Amounts.{on, spreadOver, saturatedSum, isCharged, pointOn, pointsBetween}
+use Rattle.model.specs.Tree.{parents, steps, walk, walkUp, brought, rollUp, isLeaf, leaves}
+use Rattle.model.specs.Costs.{accrued, expenseAmounts, assignmentsOf, expensesOf, byDay, ownCost, costOf, costs, projectCost, budgetByDay, spendingBetween}
+use Rattle.model.proofs.Calendar.{weekday-is}
+
+-- its working days, 1 to 3 January 2024: Monday to Wednesday
+abbrev calendar : Calendar
+calendar = calendarAt example 0
+
+planned-days : dayList calendar 19723 19725 ≡ 19723 ∷ 19724 ∷ 19725 ∷ []
+unfolding dayList workingDays datesBetween isWorking exceptionOn usuallyWorks isRegionHoliday worksOn any span keep
+planned-days = rw (weekday-is 19723 (omega arith), weekday-is 19724 (omega arith), weekday-is 19725 (omega arith))
+
+actual-days : dayList calendar 19723 19723 ≡ 19723 ∷ []
+unfolding dayList workingDays datesBetween isWorking exceptionOn usuallyWorks isRegionHoliday worksOn any span keep
+actual-days = rw (weekday-is 19723 (omega arith))
+
+remaining-days : dayList calendar 19724 19725 ≡ 19724 ∷ 19725 ∷ []
+unfolding dayList workingDays datesBetween isWorking exceptionOn usuallyWorks isRegionHoliday worksOn any span keep
+remaining-days = rw (weekday-is 19724 (omega arith), weekday-is 19725 (omega arith))
+
+abbrev cost : Cost
+cost = record { budget = pos 1000; actual = pos 400; remaining = pos 600 }
+
+pub example-costs : costs example ≡ cost ∷ cost ∷ []
+unfolding
+    costs costOf ownCost byDay assignmentsOf expensesOf expenseAmounts accrued rollUp brought walkUp walk steps parents saturatedSum spreadOver
+    daysOf plannedDays actualDays daysSince remainingDays daysLeft remainingFrom calendarOf span keep shareOf sharesFrom flatMap zipWith orElse saturated
+example-costs = rw (planned-days, actual-days, remaining-days)
+
+pub example-project : projectCost example ≡ cost
+unfolding
+    projectCost leaves isLeaf costOf ownCost byDay assignmentsOf expensesOf expenseAmounts accrued rollUp brought walkUp walk steps parents
+    saturatedSum spreadOver daysOf plannedDays actualDays daysSince remainingDays daysLeft remainingFrom calendarOf any span keep shareOf sharesFrom flatMap
+    zipWith orElse saturated
+example-project = rw (planned-days, actual-days, remaining-days)
+
+pub example-spending : spendingBetween example 19723 19725 ≡ on 19723 (pos 334) ∷ on 19724 (pos 333) ∷ on 19725 (pos 333) ∷ []
+unfolding
+    spendingBetween budgetByDay byDay assignmentsOf expensesOf expenseAmounts accrued spreadOver daysOf plannedDays calendarOf pointsBetween
+    datesBetween pointOn isCharged saturatedSum parents any span keep shareOf sharesFrom flatMap zipWith saturated
+example-spending = rw (planned-days)

@@ -1,0 +1,13 @@
+pub mod Lists
+pub mod Calendar
+pub mod Days
+pub mod Pigeonhole
+pub mod Tree
+pub mod RollUp
+pub mod Points
+pub mod Prices
+pub mod Saturating
+pub mod Amounts
+pub mod Costs
+pub mod Example
+pub mod Cases

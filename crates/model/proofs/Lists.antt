@@ -1,0 +1,191 @@
+-- Laws of the lists: what they hold, and that they rise.
+use Prim.Native.Nat.{ℕ, zero, suc, _+_, _≤_, _<_}
+use mathlib.Core.Path.{_≡_, refl, sym, ap, ap₂, _∙_}
+use mathlib.Core.Logic.{_⊎_, inl, inr, ⊎-elim}
+use mathlib.Core.Bool.{Bool, true, false, true≢false, _&&_, _||_, or-true}
+use mathlib.Core.List.{List, [], _∷_, _++_, map, List·Memᴰ, List·Memᴰ·head, List·Memᴰ·tail, List·Memᴰ·not-nil, List·Memᴰ·cases-cons}
+use native.Mathlib.Omega.{arith}
+use native.Mathlib.Decide.{ℕ-discrete}
+use lib.Dec.{eqb}
+use lib.ListN.{length, getD, take}
+use borrow.Author.Tests.{eqb-true}
+use Rattle.format.specs.InRange.{Rising}
+use Rattle.holidays.specs.Holiday.{any}
+use Rattle.model.specs.Lists.{span, consIf, keep}
+
+-- ---- what is in them
+pub span-in : (a n d : ℕ) → List·Memᴰ d (span a n) → (a ≤ d) × (d < a + n)
+unfolding span
+span-in a zero d m = absurd (List·Memᴰ·not-nil m)
+span-in a (suc n) d m = ⊎-elim (λ e. omega arith) (λ r. let h = span-in (suc a) n d r in omega arith) (List·Memᴰ·cases-cons m)
+
+pub in-span : (a n d : ℕ) → a ≤ d → d < a + n → List·Memᴰ d (span a n)
+unfolding span
+in-span a zero d h k = absurd (omega arith)
+in-span a (suc n) d h k = go (ℕ-discrete d a) (in-span (suc a) n d)
+  where
+    go : Dec (d ≡ a) → (suc a ≤ d → d < suc a + n → List·Memᴰ d (span (suc a) n)) → List·Memᴰ d (a ∷ span (suc a) n)
+    go (yes e) ih = List·Memᴰ·head e
+    go (no e) ih = List·Memᴰ·tail (ih (omega arith) (omega arith))
+
+module _ {A : Type 0} (p : A → Bool) where
+  pub keep-in : (x : A) (xs : List A) → List·Memᴰ x (keep p xs) → List·Memᴰ x xs × (p x ≡ true)
+  unfolding keep
+  keep-in x [] m = absurd (List·Memᴰ·not-nil m)
+  keep-in x (y ∷ ys) m = go (p y) refl m (keep-in x ys)
+    where
+      go : (b : Bool) → p y ≡ b → List·Memᴰ x (consIf b y (keep p ys)) → (List·Memᴰ x (keep p ys) → List·Memᴰ x ys × (p x ≡ true)) → List·Memᴰ x (y ∷ ys) × (p x ≡ true)
+      go false e m ih = let h = ih m in (List·Memᴰ·tail (h .0), h .1)
+      go true e m ih = first (List·Memᴰ·cases-cons m)
+        where
+          first : (x ≡ y) ⊎ List·Memᴰ x (keep p ys) → List·Memᴰ x (y ∷ ys) × (p x ≡ true)
+          first (inl s) = (List·Memᴰ·head s, cc)
+          first (inr m) = let h = ih m in (List·Memᴰ·tail (h .0), h .1)
+
+  pub in-keep : (x : A) (xs : List A) → List·Memᴰ x xs → p x ≡ true → List·Memᴰ x (keep p xs)
+  unfolding keep
+  in-keep x [] m t = absurd (List·Memᴰ·not-nil m)
+  in-keep x (y ∷ ys) m t = go (p y) refl (List·Memᴰ·cases-cons m) (λ r. in-keep x ys r t)
+    where
+      go : (b : Bool) → p y ≡ b → (x ≡ y) ⊎ List·Memᴰ x ys → (List·Memᴰ x ys → List·Memᴰ x (keep p ys)) → List·Memᴰ x (consIf b y (keep p ys))
+      go true e (inl s) ih = List·Memᴰ·head s
+      go true e (inr r) ih = List·Memᴰ·tail (ih r)
+      go false e (inl s) ih = absurd (true≢false (cc))
+      go false e (inr r) ih = ih r
+
+  pub keep-none : (xs : List A) → ((x : A) → List·Memᴰ x xs → p x ≡ false) → keep p xs ≡ []
+  unfolding keep
+  keep-none [] h = refl
+  keep-none (y ∷ ys) h = ap (λ (b : Bool). consIf b y (keep p ys)) (h y (List·Memᴰ·head refl)) ∙ keep-none ys (λ x m. h x (List·Memᴰ·tail m))
+
+  pub keep-append : (xs ys : List A) → keep p (xs ++ ys) ≡ keep p xs ++ keep p ys
+  unfolding keep
+  keep-append [] ys = refl
+  keep-append (x ∷ xs) ys = ap (consIf (p x) x) (keep-append xs ys) ∙ go (p x)
+    where
+      go : (b : Bool) → consIf b x (keep p xs ++ keep p ys) ≡ consIf b x (keep p xs) ++ keep p ys
+      go true = refl
+      go false = refl
+
+  pub keep-keep : (q : A → Bool) (xs : List A) → keep q (keep p xs) ≡ keep (λ x. p x && q x) xs
+  unfolding keep
+  keep-keep q [] = refl
+  keep-keep q (x ∷ xs) = go (p x) ∙ ap (consIf (p x && q x) x) (keep-keep q xs)
+    where
+      go : (b : Bool) → keep q (consIf b x (keep p xs)) ≡ consIf (b && q x) x (keep q (keep p xs))
+      go true = refl
+      go false = refl
+
+  pub keep-map : {B : Type 0} (f : B → A) (xs : List B) → keep p (map f xs) ≡ map f (keep (λ x. p (f x)) xs)
+  unfolding keep
+  keep-map f [] = refl
+  keep-map f (x ∷ xs) = ap (consIf (p (f x)) (f x)) (keep-map f xs) ∙ go (p (f x))
+    where
+      go : (b : Bool) → consIf b (f x) (map f (keep (λ y. p (f y)) xs)) ≡ map f (consIf b x (keep (λ y. p (f y)) xs))
+      go true = refl
+      go false = refl
+
+  -- what holds of those that pass is all that counts
+  pub map-kept : {B : Type 0} (f g : A → B) (xs : List A) → ((x : A) → p x ≡ true → f x ≡ g x) → map f (keep p xs) ≡ map g (keep p xs)
+  unfolding keep
+  map-kept f g [] h = refl
+  map-kept f g (x ∷ xs) h = go (p x) refl (map-kept f g xs h)
+    where
+      go : (b : Bool) → p x ≡ b → map f (keep p xs) ≡ map g (keep p xs) → map f (consIf b x (keep p xs)) ≡ map g (consIf b x (keep p xs))
+      go true e ih = ap₂ _∷_ (h x e) ih
+      go false e ih = ih
+
+pub take-in : {A : Type 0} (x : A) (n : ℕ) (xs : List A) → List·Memᴰ x (take n xs) → List·Memᴰ x xs
+take-in x zero xs m = absurd (List·Memᴰ·not-nil m)
+take-in x (suc n) [] m = m
+take-in x (suc n) (y ∷ ys) m = ⊎-elim List·Memᴰ·head (λ r. List·Memᴰ·tail (take-in x n ys r)) (List·Memᴰ·cases-cons m)
+
+-- ---- where a number stands
+pub record FirstAt (x : ℕ) (xs : List ℕ) : Type 0 where
+  pub at : ℕ
+  pub inside : at < length xs
+  pub here : getD xs at 0 ≡ x
+  pub before : (j : ℕ) → j < at → getD xs j 0 ≡ x → ⊥
+
+pub first-at : (x : ℕ) (xs : List ℕ) → List·Memᴰ x xs → FirstAt x xs
+first-at x [] m = absurd (List·Memᴰ·not-nil m)
+first-at x (y ∷ ys) m = go (ℕ-discrete y x) (first-at x ys)
+  where
+    go : Dec (y ≡ x) → (List·Memᴰ x ys → FirstAt x ys) → FirstAt x (y ∷ ys)
+    go (yes e) ih = record { at = 0; inside = omega arith; here = e; before = λ j h. absurd (omega arith) }
+    go (no e) ih =
+        let f = ih (⊎-elim (λ s. absurd (e (sym s))) (λ r. r) (List·Memᴰ·cases-cons m)) in
+        record { at = suc (f .at); inside = omega (arith, f .inside); here = f .here; before = past f }
+      where
+        past : (f : FirstAt x ys) (j : ℕ) → j < suc (f .at) → getD (y ∷ ys) j 0 ≡ x → ⊥
+        past f zero h = e
+        past f (suc j) h = f .before j (omega arith)
+
+pub at-in : (x : ℕ) (xs : List ℕ) (k : ℕ) → k < length xs → getD xs k 0 ≡ x → List·Memᴰ x xs
+at-in x [] k h e = absurd (omega arith)
+at-in x (y ∷ ys) zero h e = List·Memᴰ·head (sym e)
+at-in x (y ∷ ys) (suc k) h e = List·Memᴰ·tail (at-in x ys k (omega arith) e)
+
+pub any-in : (x : ℕ) (xs : List ℕ) → any (eqb x) xs ≡ true → List·Memᴰ x xs
+unfolding any
+any-in x [] e = absurd (true≢false (sym e))
+any-in x (y ∷ ys) e = go (eqb x y) refl e (any-in x ys)
+  where
+    go : (b : Bool) → eqb x y ≡ b → (b || any (eqb x) ys) ≡ true → (any (eqb x) ys ≡ true → List·Memᴰ x ys) → List·Memᴰ x (y ∷ ys)
+    go true s e ih = List·Memᴰ·head (eqb-true x y s)
+    go false s e ih = List·Memᴰ·tail (ih e)
+
+pub in-any : {A : Type 0} (p : A → Bool) (x : A) (xs : List A) → List·Memᴰ x xs → p x ≡ true → any p xs ≡ true
+unfolding any
+in-any p x [] m t = absurd (List·Memᴰ·not-nil m)
+in-any p x (y ∷ ys) m t =
+    ⊎-elim (λ e. ap (λ (b : Bool). b || any p ys) (ap p (sym e) ∙ t)) (λ r. ap (λ (b : Bool). p y || b) (in-any p x ys r t) ∙ or-true (p y))
+    (List·Memᴰ·cases-cons m)
+
+-- ---- their order
+keep-from : (p : ℕ → Bool) (a n k : ℕ) → k < length (keep p (span a n)) → a ≤ getD (keep p (span a n)) k 0
+unfolding span keep
+keep-from p a zero k h = absurd (omega arith)
+keep-from p a (suc n) k h = go (p a) (keep-from p (suc a) n) k h
+  where
+    go : (b : Bool) → ((k : ℕ) → k < length (keep p (span (suc a) n)) → suc a ≤ getD (keep p (span (suc a) n)) k 0)
+        → (k : ℕ) → k < length (consIf b a (keep p (span (suc a) n))) → a ≤ getD (consIf b a (keep p (span (suc a) n))) k 0
+    go false ih k h = omega (arith, ih k h)
+    go true ih zero h = omega arith
+    go true ih (suc k) h = omega (arith, ih k (omega arith))
+
+pub keep-rises : (p : ℕ → Bool) (a n : ℕ) → Rising (keep p (span a n))
+unfolding span keep
+keep-rises p a zero j k m l = absurd (omega arith)
+keep-rises p a (suc n) j k m l = go (p a) (keep-rises p (suc a) n) j k m l
+  where
+    go : (b : Bool) → Rising (keep p (span (suc a) n)) → Rising (consIf b a (keep p (span (suc a) n)))
+    go false r j k m l = r j k m l
+    go true r zero zero m l = absurd (omega arith)
+    go true r zero (suc k) m l = keep-from p (suc a) n k (omega arith)
+    go true r (suc j) zero m l = absurd (omega arith)
+    go true r (suc j) (suc k) m l = r j k (omega arith) (omega arith)
+
+-- ---- a rising list is known by what it holds
+module _ (x : ℕ) (xs : List ℕ) (r : Rising (x ∷ xs)) where
+  rest-rises : Rising xs
+  rest-rises j k h l = r (suc j) (suc k) (omega arith) (omega arith)
+
+  least : (d : ℕ) → List·Memᴰ d xs → x < d
+  least d m = let f = first-at d xs m in omega (arith, f .here, r 0 (suc (f .at)) (omega arith) (omega (arith, f .inside)))
+
+pub rising-same : (xs ys : List ℕ) → Rising xs → Rising ys → ((d : ℕ) → List·Memᴰ d xs → List·Memᴰ d ys) → ((d : ℕ) → List·Memᴰ d ys → List·Memᴰ d xs) → xs ≡ ys
+rising-same [] [] r s f g = refl
+rising-same [] (y ∷ ys) r s f g = absurd (List·Memᴰ·not-nil (g y (List·Memᴰ·head refl)))
+rising-same (x ∷ xs) [] r s f g = absurd (List·Memᴰ·not-nil (f x (List·Memᴰ·head refl)))
+rising-same (x ∷ xs) (y ∷ ys) r s f g =
+    ap₂ _∷_ same
+    (rising-same xs ys (rest-rises x xs r) (rest-rises y ys s)
+    (λ d m. inner (f d (List·Memᴰ·tail m)) (λ e. omega (arith, same, least x xs r d m)))
+    (λ d m. inner (g d (List·Memᴰ·tail m)) (λ e. omega (arith, same, least y ys s d m))))
+  where
+    same : x ≡ y
+    same = ⊎-elim (λ e. e) (λ m. ⊎-elim sym (λ n. absurd (omega (arith, least y ys s x m, least x xs r y n))) (List·Memᴰ·cases-cons (g y (List·Memᴰ·head refl)))) (List·Memᴰ·cases-cons (f x (List·Memᴰ·head refl)))
+
+    inner : {d z : ℕ} {zs : List ℕ} → List·Memᴰ d (z ∷ zs) → (d ≡ z → ⊥) → List·Memᴰ d zs
+    inner m h = ⊎-elim (λ e. absurd (h e)) (λ n. n) (List·Memᴰ·cases-cons m)

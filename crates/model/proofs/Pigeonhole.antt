@@ -1,0 +1,45 @@
+-- Numbers below n, no two alike: there are at most n of them.
+use mathlib.Core.Path.{_≡_, refl, sym, ap, _∙_}
+use mathlib.Core.Bool.{Bool, true, false}
+use Prim.Native.Nat.{ℕ, zero, suc, _+_, _≤_, _<_, zero-le}
+use native.Mathlib.Omega.{arith}
+use borrow.Author.Tests.{eqb-true, ne-eqb, lt-ltb}
+use lib.Dec.{eqb}
+use Rattle.integer.specs.Sums.{nats, sum, only, sum-cong, sum-none, sum-swap, sum-hot, sum-mono}
+
+ones : (k : ℕ) → sum nats (λ i. 1) k ≡ k
+unfolding sum
+ones zero = refl
+ones (suc k) = omega (arith, ones k)
+
+module _ (f : ℕ → ℕ) where
+  -- how often v is one of the first m
+  abbrev times : ℕ → ℕ → ℕ
+  times v m = sum nats (λ k. only nats (eqb (f k) v) 1) m
+
+  abbrev NoTwoBelow : ℕ → Type 0
+  NoTwoBelow m = (j k : ℕ) → j < k → k < m → f j ≡ f k → ⊥
+
+  at-most-once : (v m : ℕ) → NoTwoBelow m → times v m ≤ 1
+  unfolding sum
+  at-most-once v zero h = zero-le
+  at-most-once v (suc m) h = go (eqb (f m) v) refl (at-most-once v m (λ j k l r. h j k l (omega arith)))
+    where
+      none : eqb (f m) v ≡ true → times v m ≡ 0
+      none e = sum-none nats (λ k. only nats (eqb (f k) v) 1) m
+          (λ k l. ap (λ (b : Bool). only nats b 1) (ne-eqb (f k) v (λ x. h k m l (omega arith) (x ∙ sym (eqb-true (f m) v e)))))
+
+      go : (b : Bool) → eqb (f m) v ≡ b → times v m ≤ 1 → times v m + only nats b 1 ≤ 1
+      go true e ih = omega (arith, none e)
+      go false e ih = omega arith
+
+  pub at-most : (m n : ℕ) → ((k : ℕ) → k < m → f k < n) → NoTwoBelow m → m ≤ n
+  at-most m n h d =
+      omega (
+        arith,
+        ones m,
+        ones n,
+        sum-cong nats (λ k. sum nats (λ v. only nats (eqb (f k) v) 1) n) (λ k. 1) m (λ k l. sum-hot nats (f k) 1 n ∙ ap (λ (b : Bool). only nats b 1) (lt-ltb (f k) n (h k l))),
+        sum-swap nats (λ k v. only nats (eqb (f k) v) 1) m n,
+        sum-mono (λ v. times v m) (λ v. 1) n (λ v l. at-most-once v m d),
+      )
