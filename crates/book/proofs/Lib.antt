@@ -1,0 +1,6 @@
+pub mod Lists
+pub mod Limits
+pub mod Marks
+pub mod Whole
+pub mod Index
+pub mod Parents

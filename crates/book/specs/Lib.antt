@@ -1,0 +1,5 @@
+pub mod Sections
+pub mod Elements
+pub mod Layout
+pub mod Places
+pub mod Leaves
