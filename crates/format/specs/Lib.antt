@@ -12,6 +12,5 @@ pub mod Records
 pub mod Enumeration
 pub mod Book
 pub mod Format
-pub mod Chains
 pub mod Verdict
 pub mod InRange

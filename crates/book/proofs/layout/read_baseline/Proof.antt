@@ -1,5 +1,5 @@
 -- `read_baseline` meets its contract: its mark, and its lines where the mark is 1.
-use mathlib.Core.Path.{_≡_}
+use mathlib.Core.Path.{_≡_, refl}
 use mathlib.Core.Bool.{true, false}
 use mathlib.Core.List.{List}
 use mathlib.Core.Option.{none, some}
@@ -8,23 +8,29 @@ use lib.Dec.{eqb}
 use borrow.Author.Needs.{needs}
 use borrow.Author.Tests.{eq-eqb, ne-eqb}
 use Rattle.format.specs.declared.Pos.{Pos}
-use Rattle.format.specs.Reader.{given}
+use Rattle.format.specs.Reader.{given, mapped, both}
 use Rattle.format.specs.Field.{U}
-use Rattle.format.specs.Codec.{Codec, field, marked, when}
-use Rattle.format.specs.Chains.{markedChain, marked-chain}
+use Rattle.format.specs.Codec.{Codec, field, marked, when, iso, _then_}
 use Rattle.book.specs.Layout.{linesOf}
 use Rattle.book.proofs.Lists.{up-to-read}
 use Rattle.book.proofs.layout.read_baseline.Statement.{statement}
 use Rattle.book.proofs.layout.read_baseline.Tie as tie
 
+-- the mark, then what it says
+marked-read :
+    {A : Type 0} (c : Codec A) (s : List ℕ) (p : Pos) →
+    marked c .read s p ≡ when (eqb (field (U 0 1) .read s p .0) 1) c .read s (field (U 0 1) .read s p .1)
+unfolding marked iso _then_ mapped both
+marked-read c s p = refl
+
 module _ {A : Type 0} (c : Codec A) (s : List ℕ) (p : Pos) {m : ℕ} {mid : Pos} (e : (m, mid) ≡ field (U 0 1) .read s p) where
   there : eqb m 1 ≡ true → {v : A} {end : Pos} → (v, end) ≡ c .read s mid → (some v, end) ≡ marked c .read s p
-  unfolding markedChain when given
-  there t h = rw (marked-chain c s p, ← e, t, ← h)
+  unfolding when given
+  there t h = rw (marked-read c s p, ← e, t, ← h)
 
   absent : eqb m 1 ≡ false → (none, mid) ≡ marked c .read s p
-  unfolding markedChain when given
-  absent t = rw (marked-chain c s p, ← e, t)
+  unfolding when given
+  absent t = rw (marked-read c s p, ← e, t)
 
 read-elements-requires : tie.Need-read-elements-requires
 read-elements-requires c κs = search needs
