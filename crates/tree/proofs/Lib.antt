@@ -1,0 +1,4 @@
+pub mod Walks
+pub mod Rolled
+pub mod Rows
+pub mod Leaves
