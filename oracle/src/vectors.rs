@@ -1,17 +1,20 @@
-//! Vectors of the leaf functions, one a line: `NAME ARGUMENT.. = EXPECTED..`.
+//! Vectors of the leaf functions and of the verdict, one a line: `NAME ARGUMENT.. = EXPECTED..`.
 
 use std::fmt::Display;
 
 use mkperth_sched::Cost;
 
+use crate::book::decode;
+use crate::damage::Damage;
 use crate::leaf;
 use crate::random::Random;
+use crate::sample::{self, MUTATED};
 
 /// A leaf function: its name, and how a vector's arguments and results are made.
 type Leaf = (&'static str, fn(&mut Random) -> String);
 
-/// Every leaf function.
-pub const LEAVES: [Leaf; 23] = [
+/// Every leaf function, and the verdict.
+pub const LEAVES: [Leaf; 24] = [
     ("saturating_add", |r| {
         let (a, b) = r.amount_pair();
         format!("{a} {b} = {}", a.saturating_add(b))
@@ -106,7 +109,21 @@ pub const LEAVES: [Leaf; 23] = [
         let days = r.holiday_days();
         format!("{days} = {}", u8::from(leaf::is_holiday(days)))
     }),
+    ("verdict", |r| {
+        let bytes = short_book(r);
+        let digits: String = bytes.iter().map(|byte| format!("{byte:02x}")).collect();
+        let (number, place) = decode(&bytes).map_or_else(|no| (no.number, no.place), |_| (0, 0));
+        format!("{digits} = {number} {place}")
+    }),
 ];
+
+/// A whole, damaged or changed book that fits in a line.
+fn short_book(random: &mut Random) -> Vec<u8> {
+    let damage = random.pick(&Damage::ALL).name();
+    let kind = random.pick(&["small", MUTATED, damage, damage]);
+    let bytes = sample::bytes(kind, random.number()).filter(|bytes| bytes.len() <= 2_000);
+    bytes.unwrap_or_default()
+}
 
 /// `count` vectors of each leaf function.
 pub fn text(seed: u64, count: usize) -> String {

@@ -4,6 +4,7 @@ ghost use Prim.Native.Nat.{_≤_};
 ghost use lib.ListN.{length};
 
 mod answer;
+mod books;
 mod functions;
 mod text;
 mod vector;
@@ -57,18 +58,9 @@ fn report(line: &[u8], a: Answer) {
     print(b"\n");
 }
 
-// Replays one line.
-fn replay(line: &[u8], tally: Tally) -> Tally {
-    let end = text::find(line, 0, text::BLANK);
-    if line.len() < end {
-        return tally;
-    }
-    let numbers = vector::numbers(line, end);
-    let values = numbers.values;
-    let a = functions::answer(&line[..end], values);
-    let given = numbers.given;
-    let at = numbers.at;
-    if at == line.len() && answer::agrees(a, values, given, numbers.count) {
+// The count with one line more.
+fn counted(line: &[u8], a: Answer, same: bool, tally: Tally) -> Tally {
+    if same {
         return Tally {
             lines: next(tally.lines),
             differ: tally.differ,
@@ -79,6 +71,34 @@ fn replay(line: &[u8], tally: Tally) -> Tally {
         lines: next(tally.lines),
         differ: next(tally.differ),
     }
+}
+
+// Replays a line that asks for the verdict on a book.
+fn replay_book(line: &[u8], from: usize, tally: Tally) -> Tally {
+    let asked = books::ask(line, from);
+    let a = asked.answer;
+    let numbers = vector::numbers(line, asked.next);
+    let values = numbers.values;
+    let at = numbers.at;
+    let same = at == line.len() && answer::agrees(a, values, numbers.given, numbers.count);
+    counted(line, a, same, tally)
+}
+
+// Replays one line.
+fn replay(line: &[u8], tally: Tally) -> Tally {
+    let end = text::find(line, 0, text::BLANK);
+    if line.len() <= end {
+        return counted(line, answer::unknown(), false, tally);
+    }
+    if check::same(&line[..end], b"verdict") {
+        return replay_book(line, end + 1, tally);
+    }
+    let numbers = vector::numbers(line, end);
+    let values = numbers.values;
+    let a = functions::answer(&line[..end], values);
+    let at = numbers.at;
+    let same = at == line.len() && answer::agrees(a, values, numbers.given, numbers.count);
+    counted(line, a, same, tally)
 }
 
 // Replays the whole lines among the first `full` bytes of a buffer.

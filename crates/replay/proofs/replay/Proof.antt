@@ -8,8 +8,32 @@ use Rattle.replay.proofs.replay.Tie as tie
 find-requires : tie.Need-find-requires
 find-requires c κs = search needs
 
+unknown-requires : tie.Need-unknown-requires
+unknown-requires c κs = search needs
+
+counted-requires : tie.Need-counted-requires
+counted-requires c κs = search needs
+
 returns : tie.Need-returns
 returns c = search needs
+
+slice-aggregate-same : tie.Need-slice-aggregate-same
+slice-aggregate-same c = sym (length-take-le _ _ (search needs))
+
+slice-aggregate-same-2 : tie.Need-slice-aggregate-same-2
+slice-aggregate-same-2 c = search needs
+
+same-requires : tie.Need-same-requires
+same-requires c κs = search needs
+
+add-replay-book : tie.Need-add-replay-book
+add-replay-book c = search needs
+
+replay-book-requires : tie.Need-replay-book-requires
+replay-book-requires c κs = search needs
+
+returns-2 : tie.Need-returns-2
+returns-2 c = search needs
 
 numbers-requires : tie.Need-numbers-requires
 numbers-requires c κs = search needs
@@ -23,20 +47,8 @@ answer-requires c κs = search needs
 agrees-requires : tie.Need-agrees-requires
 agrees-requires c κs = search needs
 
-next-requires : tie.Need-next-requires
-next-requires c κs = search needs
-
-returns-2 : tie.Need-returns-2
-returns-2 c = search needs
-
-report-requires : tie.Need-report-requires
-report-requires c κs = search needs
-
-next-requires-2 : tie.Need-next-requires-2
-next-requires-2 c κs = search needs
-
-next-requires-3 : tie.Need-next-requires-3
-next-requires-3 c κs = search needs
+counted-requires-2 : tie.Need-counted-requires-2
+counted-requires-2 c κs = search needs
 
 returns-3 : tie.Need-returns-3
 returns-3 c = search needs
@@ -46,14 +58,18 @@ replay-spec =
     tie.close
     (tie.spec
     find-requires
+    unknown-requires
+    counted-requires
     returns
+    slice-aggregate-same
+    slice-aggregate-same-2
+    same-requires
+    add-replay-book
+    replay-book-requires
+    returns-2
     numbers-requires
     slice-aggregate-answer
     answer-requires
     agrees-requires
-    next-requires
-    returns-2
-    report-requires
-    next-requires-2
-    next-requires-3
+    counted-requires-2
     returns-3)
