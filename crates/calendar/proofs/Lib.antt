@@ -1,0 +1,2 @@
+pub mod Overlays
+pub mod Spans

@@ -1,0 +1,38 @@
+-- `mark` meets its contract: outside the table nothing is set.
+use Prim.Native.Nat.{_-_}
+use mathlib.Core.Path.{sym, ap}
+use borrow.Author.Needs.{needs}
+use borrow.Author.Tests.{le-leb, lt-leb}
+use lib.ListN.{set}
+use lib.Seq.{set-out}
+use Rattle.calendar.specs.Tables.{marked}
+use Rattle.calendar.proofs.days.mark.Statement.{statement}
+use Rattle.calendar.proofs.days.mark.Tie as tie
+
+returns : tie.Need-returns
+unfolding marked
+returns c = rw (lt-leb 10957 (c .before .before .args .date) (c .if1 .taken))
+
+mul-days : tie.Need-mul-days
+mul-days c = search needs
+
+slice-write-days : tie.Need-slice-write-days
+slice-write-days c = search needs
+
+same-length : tie.Need-same-length
+same-length c = search needs
+
+returns-2 : tie.Need-returns-2
+unfolding marked
+returns-2 c =
+    let s = c .before .before .before .before .args in
+    rw (le-leb 10957 (s .date) (c .before .before .if1 .left)) (ap (set (s .days .now) (s .date - 10957)) (c .bit .ensures))
+
+returns-3 : tie.Need-returns-3
+unfolding marked
+returns-3 c =
+    let s = c .before .before .before .args in
+    rw (le-leb 10957 (s .date) (c .before .if1 .left)) (sym (set-out _ _ _ (c .if2 .left)))
+
+pub mark-spec : {M : Type 1} → statement M
+mark-spec = tie.close (tie.spec returns (λ c κs. tt) mul-days slice-write-days same-length returns-2 returns-3)

@@ -1,0 +1,4 @@
+pub mod Effect
+pub mod Lift
+pub mod Days
+pub mod Span
