@@ -18,3 +18,4 @@ pub mod selftest;
 pub mod status;
 pub mod traps;
 pub mod vectors;
+pub mod verdicts;

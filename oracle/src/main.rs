@@ -4,7 +4,7 @@ use std::io::{Read, Write, stdin, stdout};
 use std::process::ExitCode;
 
 use oracle::damage::Damage;
-use oracle::{generate, sample, selftest, status, traps, vectors};
+use oracle::{generate, sample, selftest, status, traps, vectors, verdicts};
 
 const USAGE: &str = "oracle answer CALL [ASKED..] < BOOK
 oracle status < BOOK
@@ -12,6 +12,7 @@ oracle traps FILE
 oracle generate KIND SEED > BOOK
 oracle sample KIND SEED
 oracle vectors SEED COUNT
+oracle verdicts TRAPS
 oracle selftest [BOOKS]";
 
 fn main() -> ExitCode {
@@ -30,6 +31,9 @@ fn main() -> ExitCode {
         ["vectors", seed, count] => number(seed)
             .zip(number(count))
             .and_then(|(seed, count)| print(vectors::text(seed, count as usize).as_bytes())),
+        ["verdicts", file] => std::fs::read_to_string(file)
+            .ok()
+            .and_then(|traps| print(verdicts::text(&traps).as_bytes())),
         ["selftest"] => selftest(400),
         ["selftest", books] => number(books).and_then(selftest),
         _ => None,

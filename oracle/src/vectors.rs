@@ -4,11 +4,11 @@ use std::fmt::Display;
 
 use mkperth_sched::Cost;
 
-use crate::book::decode;
 use crate::damage::Damage;
 use crate::leaf;
 use crate::random::Random;
 use crate::sample::{self, MUTATED};
+use crate::verdicts;
 
 /// A leaf function: its name, and how a vector's arguments and results are made.
 type Leaf = (&'static str, fn(&mut Random) -> String);
@@ -109,12 +109,7 @@ pub const LEAVES: [Leaf; 24] = [
         let days = r.holiday_days();
         format!("{days} = {}", u8::from(leaf::is_holiday(days)))
     }),
-    ("verdict", |r| {
-        let bytes = short_book(r);
-        let digits: String = bytes.iter().map(|byte| format!("{byte:02x}")).collect();
-        let (number, place) = decode(&bytes).map_or_else(|no| (no.number, no.place), |_| (0, 0));
-        format!("{digits} = {number} {place}")
-    }),
+    ("verdict", |r| verdicts::line(&short_book(r))),
 ];
 
 /// A whole, damaged or changed book that fits in a line.

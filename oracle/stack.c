@@ -1,0 +1,45 @@
+/* How much stack a call needs. Each call is made on a stack that was painted before, and what paint is left is counted; a call of
+   nothing is taken off.
+
+       gcc -O2 -Iinclude oracle/stack.c target/staticlib/libsurukeva.a -lpthread -o build/stack && build/stack < BOOK */
+#include <pthread.h>
+#include <stdio.h>
+#include <stdlib.h>
+#include <string.h>
+
+#include "surukeva.h"
+
+enum { STACK = 8 << 20, PAINT = 0xa5, LONGEST = 1 << 20 };
+
+static uint8_t book[LONGEST];
+static size_t length;
+static uint64_t at;
+
+static void *nothing(void *unused) { return unused; }
+
+static void *verdict(void *unused) {
+    surukeva_verdict(book, length, &at);
+    return unused;
+}
+
+/* The bytes of its stack that a thread wrote to. */
+static size_t used(void *(*call)(void *)) {
+    uint8_t *stack = aligned_alloc(4096, STACK);
+    pthread_attr_t attributes;
+    pthread_t thread;
+    size_t left = 0;
+    memset(stack, PAINT, STACK);
+    pthread_attr_init(&attributes);
+    pthread_attr_setstack(&attributes, stack, STACK);
+    if (pthread_create(&thread, &attributes, call, NULL) != 0) exit(1);
+    pthread_join(thread, NULL);
+    while (left < STACK && stack[left] == PAINT) left++;
+    free(stack);
+    return STACK - left;
+}
+
+int main(void) {
+    length = fread(book, 1, LONGEST, stdin);
+    printf("verdict: %zu bytes of stack\n", used(verdict) - used(nothing));
+    return 0;
+}
