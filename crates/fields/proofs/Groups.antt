@@ -9,7 +9,7 @@ use mathlib.Core.Bool.{true, false, cond}
 use mathlib.Core.Logic.{_⊎_, inl, inr, ⊎-elim}
 use lib.ListN.{length, getD}
 use lib.Dec.{ltb, leb}
-use borrow.Author.Tests.{le-leb, lt-leb, lt-ltb, le-ltb, ne-eqb, ltb-false}
+use borrow.Author.Tests.{le-leb, lt-leb, lt-ltb, le-ltb, eq-eqb, ne-eqb, ltb-false}
 use Rattle.format.specs.declared.Num.{Num}
 use Rattle.format.specs.declared.Num.the-variants.{Value, Refused}
 use Rattle.format.specs.Number.{wrongGroup, onto, groups, numberAt}
@@ -75,11 +75,25 @@ low-or-more (suc zero) zero h w = inl (omega arith)
 low-or-more (suc zero) (suc b) h w = inl (ltb-false 1 (suc b) (rw (ne-eqb (suc b) 0 (λ z. omega arith)) at w))
 low-or-more (suc (suc n)) b h w = inr (omega arith)
 
--- no group is left
-pub none :
-    {s : List ℕ} {place at left scale sum : ℕ} → Reading s place at left scale sum → left ≤ 0 → Refused 3 place ≡ numberAt s place
-unfolding onto groups
-none {left = left} r h = let z : left ≡ 0 = omega arith in rw z at (r .same)
+-- a byte behind others: 0 is refused, and before the tenth no other is
+pub wrong-zero : (left b : ℕ) → left < 10 → b ≡ 0 → wrongGroup left b ≡ true
+unfolding wrongGroup
+wrong-zero left b h e = rw (eq-eqb b 0 e, lt-ltb left 10 h)
+
+pub right-more : (left b : ℕ) → 1 < left → (b ≡ 0 → ⊥) → wrongGroup left b ≡ false
+unfolding wrongGroup
+right-more left b h e = rw (ne-eqb b 0 e, ne-eqb left 1 (λ z. omega arith))
+
+-- the tenth can only be 1
+pub right-tenth : (left b : ℕ) → left ≡ 1 → b ≡ 1 → wrongGroup left b ≡ false
+unfolding wrongGroup
+right-tenth left b h e = rw (h, e)
+
+pub wrong-tenth : (left b : ℕ) → left ≡ 1 → (b ≡ 1 → ⊥) → wrongGroup left b ≡ true
+unfolding wrongGroup
+wrong-tenth left zero h e = rw h
+wrong-tenth left (suc zero) h e = absurd (e refl)
+wrong-tenth left (suc (suc b)) h e = rw (h, ne-eqb (suc (suc b)) 0 (λ z. omega arith), lt-ltb 1 (suc (suc b)) (omega arith))
 
 module _ {s : List ℕ} {place at left scale sum : ℕ} (r : Reading s place at left scale sum) (h : 0 < left) where
   -- the book ends where a byte is due
