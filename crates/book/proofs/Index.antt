@@ -1,4 +1,4 @@
--- The index of places: in an accepted book, element k of a list is what is read at place k.
+-- The index of places: where nothing is refused, element k of a list is what is read at place k.
 use Prim.Native.Nat.{ℕ, zero, suc, _+_, _≤_, _<_}
 use native.Mathlib.Omega.{arith}
 use mathlib.Core.Path.{_≡_, refl, ap, sym, _∙_}
@@ -10,18 +10,13 @@ use Rattle.format.specs.declared.Pos.the-variants.{At, Refused}
 use Rattle.format.specs.Reader.{placeOf}
 use Rattle.format.specs.Field.{count}
 use Rattle.format.specs.Inverse.{never}
-use Rattle.format.specs.Codec.{Codec, stay, field, times, marked, upTo}
+use Rattle.format.specs.Codec.{Codec, stay, field, times}
 use Rattle.format.specs.Records.{positions, after, nextOf}
-use Rattle.format.specs.Book.{Calendar, Activity, Resource}
-use Rattle.format.specs.Format.{calendar, activity, resource, baselineLine}
-use Rattle.format.specs.Verdict.{end, content}
+use Rattle.format.specs.Verdict.{end}
 use Rattle.format.proofs.Walks.{alike-walk, times-length, began, element-at-place}
 use Rattle.book.specs.declared.Section.{Section}
-use Rattle.book.specs.declared.layout.Layout.{Layout}
 use Rattle.book.specs.Sections.{IsList, IsAlike, elements, alikeIn}
-use Rattle.book.specs.Layout.{IsLayout, bookOf}
 use Rattle.book.specs.Places.{placesIn}
-use Rattle.book.proofs.Whole.{layout-book}
 
 -- ---- a list
 
@@ -37,15 +32,15 @@ set-first vs t k l h =
     rw (sets-eq vs t 0 room) (List·getD-append vs (drop (0 + length vs) t) 0 k h)
 
 -- not refused
-abbrev Stands : Pos → Type 0
+abbrev pub Stands : Pos → Type 0
 Stands p = p ≡ At (placeOf p)
 
-alike-length : {A : Type 0} (c : Codec A) (s : List ℕ) (r : Section) → length (alikeIn c s r) ≡ r .count
+pub alike-length : {A : Type 0} (c : Codec A) (s : List ℕ) (r : Section) → length (alikeIn c s r) ≡ r .count
 unfolding elements
 alike-length c s r = times-length (λ x. c) stay s (r .count) tt (r .first)
 
 -- element k is what is read at place k of an index that is filled from its list
-element-placed :
+pub element-placed :
     {A : Type 0} {low most : ℕ} {c : Codec A} {s : List ℕ} {p : Pos} {r : Section} → IsAlike low most c s p r → Stands (r .next) →
     (t : List ℕ) (k : ℕ) (d : A) → r .count ≤ length t → k < r .count → getD (alikeIn c s r) k d ≡ c .read s (At (getD (sets t 0 (placesIn c s r)) k 0)) .0
 unfolding elements placesIn
@@ -60,69 +55,14 @@ element-placed {c} {s} {r} l stands t k d room h =
 -- ---- the book
 
 -- where the book's end is not refused, nothing before it is
-ended : (s : List ℕ) (q : Pos) (j : ℕ) → end s q ≡ At j → Stands q
+pub ended : (s : List ℕ) (q : Pos) (j : ℕ) → end s q ≡ At j → Stands q
 unfolding end placeOf
 ended s (At i) j h = refl
 ended s (Refused e p) j h = never h
 
-back :
+pub back :
     {X A : Type 0} {low most : ℕ} {c : X → Codec A} {f : X → A → X} {x : X} {s : List ℕ} {p : Pos} {r : Section} → IsList low most c f x s p r →
     Stands (r .next) → Stands p
 back {low} {most} {c} {f} {x} {s} {p} {r} l h =
     let first = began (times c f (r .count) x) s (r .first) (placeOf (r .next)) (sym (l .rest) ∙ h) in
     began (field (count low most)) s p (placeOf (r .first)) (sym (ap nextOf (l .lead)) ∙ first)
-
-module _ (s : List ℕ) (r : Layout) (l : IsLayout s r) where
-  same : bookOf s r ≡ content s
-  same = ap (λ v. v .0) (layout-book s r l)
-
-  pub calendar-count : length (content s .calendars) ≡ r .plan .calendars .count
-  unfolding bookOf
-  calendar-count = rw (← same) (alike-length _ s (r .plan .calendars))
-
-  pub activity-count : length (content s .activities) ≡ r .plan .activities .count
-  unfolding bookOf
-  activity-count = rw (← same) (alike-length _ s (r .plan .activities))
-
-  pub resource-count : length (content s .resources) ≡ r .plan .resources .count
-  unfolding bookOf
-  resource-count = rw (← same) (alike-length _ s (r .plan .resources))
-
-module _ (s : List ℕ) (r : Layout) (l : IsLayout s r) (j : ℕ) (accepted : r .end ≡ At j) where
-  baseline-stands : Stands (r .ledger .baseline .next)
-  baseline-stands =
-      let ledger = l .ledger in
-      back (ledger .budgets) (back (ledger .log) (back (ledger .funds) (back (ledger .periods) (back (ledger .records) (ended s _ j (sym (l .last) ∙ accepted))))))
-
-  expenses-stand : Stands (r .plan .expenses .next)
-  expenses-stand = began (marked (upTo 1000 (baselineLine (r .plan .activities .count)))) s _ _ (sym (ap nextOf (l .ledger .baseline)) ∙ baseline-stands)
-
-  resources-stand : Stands (r .plan .resources .next)
-  resources-stand = back (l .plan .assignments) (back (l .plan .expenses) expenses-stand)
-
-  activities-stand : Stands (r .plan .activities .next)
-  activities-stand = back (l .plan .resources) resources-stand
-
-  calendars-stand : Stands (r .plan .calendars .next)
-  calendars-stand = back (l .plan .activities) activities-stand
-
-  -- `t`: what an index held before it was filled
-  module _ (t : List ℕ) (k : ℕ) where
-    pub calendar-at :
-        (d : Calendar) → r .plan .calendars .count ≤ length t → k < r .plan .calendars .count →
-        getD (content s .calendars) k d ≡ calendar .read s (At (getD (sets t 0 (placesIn calendar s (r .plan .calendars))) k 0)) .0
-    unfolding bookOf
-    calendar-at d room h = rw (← same s r l) (element-placed (l .plan .calendars) calendars-stand t k d room h)
-
-    pub activity-at :
-        (d : Activity) → r .plan .activities .count ≤ length t → k < r .plan .activities .count →
-        let c = activity (r .plan .calendars .count) (r .plan .activities .count) in
-        getD (content s .activities) k d ≡ c .read s (At (getD (sets t 0 (placesIn c s (r .plan .activities))) k 0)) .0
-    unfolding bookOf
-    activity-at d room h = rw (← same s r l) (element-placed (l .plan .activities) activities-stand t k d room h)
-
-    pub resource-at :
-        (d : Resource) → r .plan .resources .count ≤ length t → k < r .plan .resources .count →
-        getD (content s .resources) k d ≡ resource .read s (At (getD (sets t 0 (placesIn resource s (r .plan .resources))) k 0)) .0
-    unfolding bookOf
-    resource-at d room h = rw (← same s r l) (element-placed (l .plan .resources) resources-stand t k d room h)

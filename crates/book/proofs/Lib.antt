@@ -1,6 +1,8 @@
 pub mod Lists
+pub mod Filled
 pub mod Limits
 pub mod Marks
 pub mod Whole
 pub mod Index
 pub mod Parents
+pub mod Plan

@@ -3,3 +3,4 @@ pub mod Elements
 pub mod Layout
 pub mod Places
 pub mod Leaves
+pub mod Plan

@@ -1,2 +1,3 @@
 pub mod Overlays
 pub mod Spans
+pub mod Parts

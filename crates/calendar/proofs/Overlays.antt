@@ -17,46 +17,36 @@ use Rattle.format.specs.Book.{Exception, Calendar}
 use Rattle.format.specs.InRange.{Rising, CalendarInRange}
 use Rattle.model.specs.Calendar.{isListed, exceptionOn, isRegionHoliday, usuallyWorks, isWorking}
 use Rattle.calendar.specs.Tables.{usual, entry, one, Shows, marked, overlaid}
-use Rattle.calendar.proofs.Spans.{entries-more}
 
 -- ---- one date
 
-length-marked : (date : ℕ) (works : Bool) (days : List ℕ) → length (marked date works days) ≡ length days
+length-marked : (base date : ℕ) (works : Bool) (days : List ℕ) → length (marked base date works days) ≡ length days
 unfolding marked
-length-marked date works days = go (leb 10957 date)
+length-marked base date works days = go (leb base date)
   where
-    go : (b : Bool) → length (cond b (set days (date - 10957) (one works)) days) ≡ length days
-    go true = length-set days (date - 10957) (one works)
+    go : (b : Bool) → length (cond b (set days (date - base) (one works)) days) ≡ length days
+    go true = length-set days (date - base) (one works)
     go false = refl
 
-module _ (date : ℕ) (first : 10957 ≤ date) (days : List ℕ) where
-  marked-same : (works : Bool) → date - 10957 < length days → entry (marked date works days) date ≡ one works
+module _ (base date : ℕ) (first : base ≤ date) (days : List ℕ) where
+  marked-same : (works : Bool) → date - base < length days → entry base (marked base date works days) date ≡ one works
   unfolding marked
-  marked-same works h = rw (le-leb 10957 date first) (getD-set-same days (date - 10957) (one works) 0 h)
+  marked-same works h = rw (le-leb base date first) (getD-set-same days (date - base) (one works) 0 h)
 
-  marked-other : (d : ℕ) (works : Bool) → (date ≡ d → ⊥) → entry (marked d works days) date ≡ entry days date
+  marked-other : (d : ℕ) (works : Bool) → (date ≡ d → ⊥) → entry base (marked base d works days) date ≡ entry base days date
   unfolding marked
-  marked-other d works n = go (leb 10957 d) refl
+  marked-other d works n = go (leb base d) refl
     where
-      go : (b : Bool) → leb 10957 d ≡ b → entry (cond b (set days (d - 10957) (one works)) days) date ≡ entry days date
-      go true e = getD-set-other days (d - 10957) (date - 10957) (one works) 0 (λ q. n (omega (arith, leb-true 10957 d e)))
+      go : (b : Bool) → leb base d ≡ b → entry base (cond b (set days (d - base) (one works)) days) date ≡ entry base days date
+      go true e = getD-set-other days (d - base) (date - base) (one works) 0 (λ q. n (omega (arith, leb-true base d e)))
       go false e = refl
 
-  marked-is : date - 10957 < length days → (d : ℕ) (works b : Bool) → entry days date ≡ one b → entry (marked d works days) date ≡ one (cond (eqb date d) works b)
+  marked-is : date - base < length days → (d : ℕ) (works b : Bool) → entry base days date ≡ one b → entry base (marked base d works days) date ≡ one (cond (eqb date d) works b)
   marked-is h d works b e = go (eqb date d) refl
     where
-      go : (t : Bool) → eqb date d ≡ t → entry (marked d works days) date ≡ one (cond t works b)
+      go : (t : Bool) → eqb date d ≡ t → entry base (marked base d works days) date ≡ one (cond t works b)
       go true q = rw (← eqb-true date d q) (marked-same works h)
       go false q = marked-other d works (eqb-false date d q) ∙ e
-
--- a table that is filled date by date
-pub shown-more :
-    (p : ℕ → Bool) (from date : ℕ) (days : List ℕ) {works : Bool} {after : List ℕ} → 10957 ≤ from → from ≤ date → date - 10957 < length days → works ≡ p date →
-    after ≡ marked date works days → ((e : ℕ) → from ≤ e → e < date → entry days e ≡ one (p e)) → (e : ℕ) → from ≤ e → e < date + 1 → entry after e ≡ one (p e)
-shown-more p from date days {works} {after} f h l w m before =
-    entries-more (λ e. one (p e)) from date days after before
-    (rw m (marked-same date (omega arith) days works l ∙ ap one w))
-    (λ e a n. rw m (marked-other e (omega arith) days date works n))
 
 -- ---- a list
 
@@ -65,19 +55,19 @@ abbrev lastOn : {A : Type 0} → (A → ℕ) → (A → Bool) → ℕ → List A
 lastOn day works date [] b = b
 lastOn day works date (x ∷ xs) b = lastOn day works date xs (cond (eqb date (day x)) (works x) b)
 
-module _ {A : Type 0} (day : A → ℕ) (works : A → Bool) where
-  length-overlaid : (xs : List A) (days : List ℕ) → length (overlaid day works xs days) ≡ length days
+module _ {A : Type 0} (base : ℕ) (day : A → ℕ) (works : A → Bool) where
+  length-overlaid : (xs : List A) (days : List ℕ) → length (overlaid base day works xs days) ≡ length days
   unfolding overlaid
   length-overlaid [] days = refl
-  length-overlaid (x ∷ xs) days = length-overlaid xs (marked (day x) (works x) days) ∙ length-marked (day x) (works x) days
+  length-overlaid (x ∷ xs) days = length-overlaid xs (marked base (day x) (works x) days) ∙ length-marked base (day x) (works x) days
 
   overlaid-is :
-      (date : ℕ) → 10957 ≤ date → (xs : List A) (days : List ℕ) → date - 10957 < length days → (b : Bool) → entry days date ≡ one b →
-      entry (overlaid day works xs days) date ≡ one (lastOn day works date xs b)
+      (date : ℕ) → base ≤ date → (xs : List A) (days : List ℕ) → date - base < length days → (b : Bool) → entry base days date ≡ one b →
+      entry base (overlaid base day works xs days) date ≡ one (lastOn day works date xs b)
   unfolding overlaid
   overlaid-is date first [] days h b e = e
   overlaid-is date first (x ∷ xs) days h b e =
-      overlaid-is date first xs (marked (day x) (works x) days) (omega (arith, length-marked (day x) (works x) days)) _ (marked-is date first days h (day x) (works x) b e)
+      overlaid-is date first xs (marked base (day x) (works x) days) (omega (arith, length-marked base (day x) (works x) days)) _ (marked-is base date first days h (day x) (works x) b e)
 
 listed : (works : Bool) (date : ℕ) (xs : List ℕ) (b : Bool) → lastOn (λ (d : ℕ). d) (λ d. works) date xs b ≡ cond (isListed xs date) works b
 unfolding any
@@ -121,70 +111,69 @@ in-order false true region week = refl
 in-order false false region week = refl
 
 days-over :
-    (date : ℕ) → 10957 ≤ date → (works : Bool) (xs days : List ℕ) (b : Bool) {after : List ℕ} → after ≡ overlaid (λ (day : ℕ). day) (λ day. works) xs days →
-    date - 10957 < length days → entry days date ≡ one b → entry after date ≡ one (cond (isListed xs date) works b)
-days-over date first works xs days b m h e =
-    ap (λ (t : List ℕ). entry t date) m ∙ overlaid-is (λ (day : ℕ). day) (λ day. works) date first xs days h b e ∙ ap one (listed works date xs b)
+    (base date : ℕ) → base ≤ date → (works : Bool) (xs days : List ℕ) (b : Bool) {after : List ℕ} → after ≡ overlaid base (λ (day : ℕ). day) (λ day. works) xs days →
+    date - base < length days → entry base days date ≡ one b → entry base after date ≡ one (cond (isListed xs date) works b)
+days-over base date first works xs days b m h e =
+    ap (λ (t : List ℕ). entry base t date) m ∙ overlaid-is base (λ (day : ℕ). day) (λ day. works) date first xs days h b e ∙ ap one (listed works date xs b)
 
 -- the week and the region, overlaid with the holidays, then the extra days, then the exceptions
 pub shows-working :
-    (c : Calendar) → CalendarInRange c → (from to : ℕ) → 10957 ≤ from → to ≤ 47481 → {days free plain after : List ℕ} → length days ≡ 36525 →
+    (c : Calendar) → CalendarInRange c → (from to : ℕ) → {days free plain after : List ℕ} → to + 1 - from ≤ length days →
     Shows (usual (c .week) (c .region)) from to days →
-    free ≡ overlaid (λ (day : ℕ). day) (λ day. false) (c .holidays) days →
-    plain ≡ overlaid (λ (day : ℕ). day) (λ day. true) (c .extraDays) free →
-    after ≡ overlaid dayOf (λ e. e .working) (c .exceptions) plain →
+    free ≡ overlaid from (λ (day : ℕ). day) (λ day. false) (c .holidays) days →
+    plain ≡ overlaid from (λ (day : ℕ). day) (λ day. true) (c .extraDays) free →
+    after ≡ overlaid from dayOf (λ e. e .working) (c .exceptions) plain →
     Shows (isWorking c) from to after
 unfolding isWorking usuallyWorks
-shows-working c r from to f l {days} {free} {plain} {after} n s x y z = record { at = at }
+shows-working c r from to {days} {free} {plain} {after} n s x y z = record { at = at }
   where
-    long : length free ≡ 36525
-    long = ap length x ∙ length-overlaid (λ (day : ℕ). day) (λ day. false) (c .holidays) days ∙ n
+    long : length free ≡ length days
+    long = ap length x ∙ length-overlaid from (λ (day : ℕ). day) (λ day. false) (c .holidays) days
 
-    long-plain : length plain ≡ 36525
-    long-plain = ap length y ∙ length-overlaid (λ (day : ℕ). day) (λ day. true) (c .extraDays) free ∙ long
+    long-plain : length plain ≡ length days
+    long-plain = ap length y ∙ length-overlaid from (λ (day : ℕ). day) (λ day. true) (c .extraDays) free ∙ long
 
-    at : (date : ℕ) → from ≤ date → date ≤ to → entry after date ≡ one (isWorking c date)
+    at : (date : ℕ) → from ≤ date → date ≤ to → entry from after date ≡ one (isWorking c date)
     at date h k =
-        let first : 10957 ≤ date = omega arith in
-        let u = days-over date first false (c .holidays) days (usual (c .week) (c .region) date) x (omega arith) (s .at date h k) in
-        let v = days-over date first true (c .extraDays) free _ y (omega (arith, long)) u in
-        ap (λ (t : List ℕ). entry t date) z
-        ∙ overlaid-is dayOf (λ e. e .working) date first (c .exceptions) plain (omega (arith, long-plain)) _ v
+        let u = days-over from date h false (c .holidays) days (usual (c .week) (c .region) date) x (omega arith) (s .at date h k) in
+        let v = days-over from date h true (c .extraDays) free _ y (omega (arith, long)) u in
+        ap (λ (t : List ℕ). entry from t date) z
+        ∙ overlaid-is from dayOf (λ e. e .working) date h (c .exceptions) plain (omega (arith, long-plain)) _ v
         ∙ ap one
         (excepted date (c .exceptions) _ (r .exceptions .rising)
         ∙ ap (Option·getD (exceptionOn (c .exceptions) date)) (in-order (isListed (c .extraDays) date) (isListed (c .holidays) date) (isRegionHoliday (c .region) date) _))
 
 -- ---- a list that is read
 
-module _ {X A : Type 0} (day : A → ℕ) (works : A → Bool) (c : X → Codec A) (f : X → A → X) (s : List ℕ) (n : ℕ) (x : X) (p : Pos) (days : List ℕ) where
+module _ {X A : Type 0} (base : ℕ) (day : A → ℕ) (works : A → Bool) (c : X → Codec A) (f : X → A → X) (s : List ℕ) (n : ℕ) (x : X) (p : Pos) (days : List ℕ) where
   -- i of the n elements from p on are overlaid: they leave the state y and the table t, and the next begins at q
   pub record Overlaying (i : ℕ) (y : X) (q : Pos) (t : List ℕ) : Type 0 where
     pub most : i ≤ n
-    pub rest : overlaid day works (times c f (n - i) y .read s q .0) t ≡ overlaid day works (times c f n x .read s p .0) days
+    pub rest : overlaid base day works (times c f (n - i) y .read s q .0) t ≡ overlaid base day works (times c f n x .read s p .0) days
 
   pub overlaying-none : Overlaying 0 x p days
   overlaying-none = record { most = omega arith; rest = let e : n - 0 ≡ n = omega arith in rw e }
 
 one-more :
-    {X A : Type 0} (day : A → ℕ) (works : A → Bool) (c : X → Codec A) (f : X → A → X) (s : List ℕ) (m : ℕ) (y : X) (q : Pos) (t : List ℕ) {v : A} {r : Pos} →
+    {X A : Type 0} (base : ℕ) (day : A → ℕ) (works : A → Bool) (c : X → Codec A) (f : X → A → X) (s : List ℕ) (m : ℕ) (y : X) (q : Pos) (t : List ℕ) {v : A} {r : Pos} →
     (v, r) ≡ c y .read s q →
-    overlaid day works (times c f m (f y v) .read s r .0) (marked (day v) (works v) t) ≡ overlaid day works (times c f (suc m) y .read s q .0) t
+    overlaid base day works (times c f m (f y v) .read s r .0) (marked base (day v) (works v) t) ≡ overlaid base day works (times c f (suc m) y .read s q .0) t
 unfolding times many overlaid
-one-more {X} {A} day works c f s m y q t e =
-    ap (λ (u : A × Pos). overlaid day works (many (λ z. c z .read) f m (f y (u .0)) s (u .1) .0) (marked (day (u .0)) (works (u .0)) t)) e
+one-more {X} {A} base day works c f s m y q t e =
+    ap (λ (u : A × Pos). overlaid base day works (many (λ z. c z .read) f m (f y (u .0)) s (u .1) .0) (marked base (day (u .0)) (works (u .0)) t)) e
 
 module _
-    {X A : Type 0} {day : A → ℕ} {works : A → Bool} {c : X → Codec A} {f : X → A → X} {s : List ℕ} {n : ℕ} {x : X} {p : Pos} {days : List ℕ}
-    {i : ℕ} {y : X} {q : Pos} {t : List ℕ} (g : Overlaying day works c f s n x p days i y q t) where
+    {X A : Type 0} {base : ℕ} {day : A → ℕ} {works : A → Bool} {c : X → Codec A} {f : X → A → X} {s : List ℕ} {n : ℕ} {x : X} {p : Pos} {days : List ℕ}
+    {i : ℕ} {y : X} {q : Pos} {t : List ℕ} (g : Overlaying base day works c f s n x p days i y q t) where
   pub overlaying-more :
-      i < n → {v : A} {r : Pos} → (v, r) ≡ c y .read s q → {u : List ℕ} → u ≡ marked (day v) (works v) t → Overlaying day works c f s n x p days (i + 1) (f y v) r u
+      i < n → {v : A} {r : Pos} → (v, r) ≡ c y .read s q → {u : List ℕ} → u ≡ marked base (day v) (works v) t → Overlaying base day works c f s n x p days (i + 1) (f y v) r u
   overlaying-more h {v} {r} e m =
       let k : n - i ≡ suc (n - (i + 1)) = omega arith in
-      record { most = omega arith; rest = rw m (one-more day works c f s (n - (i + 1)) y q t e ∙ rw k at (g .rest)) }
+      record { most = omega arith; rest = rw m (one-more base day works c f s (n - (i + 1)) y q t e ∙ rw k at (g .rest)) }
 
-  pub overlaying-end : n ≤ i → t ≡ overlaid day works (times c f n x .read s p .0) days
+  pub overlaying-end : n ≤ i → t ≡ overlaid base day works (times c f n x .read s p .0) days
   unfolding times many overlaid
   overlaying-end h = let k : n - i ≡ 0 = omega arith in rw k at (g .rest)
 
   pub overlaying-long : n ≤ i → length t ≡ length days
-  overlaying-long h = ap length (overlaying-end h) ∙ length-overlaid day works (times c f n x .read s p .0) days
+  overlaying-long h = ap length (overlaying-end h) ∙ length-overlaid base day works (times c f n x .read s p .0) days

@@ -17,13 +17,15 @@ use Rattle.calendar.specs.Tables.{entry, one, works, Shows, Counts, step
 -- ---- a table that is filled date by date
 
 pub entries-more :
-    (f : ℕ → ℕ) (from date : ℕ) (table after : List ℕ) → ((e : ℕ) → from ≤ e → e < date → entry table e ≡ f e) → entry after date ≡ f date →
-    ((e : ℕ) → from ≤ e → (e ≡ date → ⊥) → entry after e ≡ entry table e) → (e : ℕ) → from ≤ e → e < date + 1 → entry after e ≡ f e
-entries-more f from date table after before here other e h k = go (eqb e date) refl
+    (f : ℕ → ℕ) (from date : ℕ) (table : List ℕ) (n : ℕ) → from ≤ date → date - from < length table → n ≡ f date →
+    ((e : ℕ) → from ≤ e → e < date → entry from table e ≡ f e) → (e : ℕ) → from ≤ e → e < date + 1 → entry from (set table (date - from) n) e ≡ f e
+entries-more f from date table n h l is before e a k = go (eqb e date) refl
   where
-    go : (b : Bool) → eqb e date ≡ b → entry after e ≡ f e
-    go true q = rw (eqb-true e date q) here
-    go false q = let n = eqb-false e date q in other e h n ∙ before e h (omega arith)
+    go : (b : Bool) → eqb e date ≡ b → entry from (set table (date - from) n) e ≡ f e
+    go true q = rw (eqb-true e date q) (getD-set-same table (date - from) n 0 l ∙ is)
+    go false q =
+        let m = eqb-false e date q in
+        getD-set-other table (date - from) (e - from) n 0 (λ q. m (omega arith)) ∙ before e a (omega arith)
 
 -- ---- counts
 
@@ -54,24 +56,15 @@ module _ (p : ℕ → Bool) where
   unfolding keep span
   kept-none from = let e : from - from ≡ 0 = omega arith in rw e
 
-  pub counted-more :
-      (from date : ℕ) (table : List ℕ) (n : ℕ) → 10957 ≤ from → from ≤ date → date - 10957 < length table → n ≡ length (keep p (span from (date - from))) →
-      ((e : ℕ) → from ≤ e → e < date → entry table e ≡ length (keep p (span from (e - from)))) →
-      (e : ℕ) → from ≤ e → e < date + 1 → entry (set table (date - 10957) n) e ≡ length (keep p (span from (e - from)))
-  counted-more from date table n f h l c before =
-      entries-more (λ e. length (keep p (span from (e - from)))) from date table (set table (date - 10957) n) before
-      (getD-set-same table (date - 10957) n 0 l ∙ c)
-      (λ e a m. getD-set-other table (date - 10957) (e - 10957) n 0 (λ q. m (omega arith)))
-
   -- what a table goes up by over a span
   goes-up :
-      (table : List ℕ) (from n : ℕ) → ((d : ℕ) → from ≤ d → d < from + n → entry table (d + 1) ≡ entry table d + one (p d)) →
-      entry table from + length (keep p (span from n)) ≡ entry table (from + n)
+      (base : ℕ) (table : List ℕ) (from n : ℕ) → ((d : ℕ) → from ≤ d → d < from + n → entry base table (d + 1) ≡ entry base table d + one (p d)) →
+      entry base table from + length (keep p (span from n)) ≡ entry base table (from + n)
   unfolding keep span
-  goes-up table from zero h = let e : from ≡ from + 0 = omega arith in omega (arith, ap (entry table) e)
-  goes-up table from (suc n) h =
+  goes-up base table from zero h = let e : from ≡ from + 0 = omega arith in omega (arith, ap (entry base table) e)
+  goes-up base table from (suc n) h =
       let e : from + n + 1 ≡ from + suc n = omega arith in
-      omega (arith, kept-next from n, goes-up table from n (λ d a b. h d a (omega arith)), h (from + n) (omega arith) (omega arith), ap (entry table) e)
+      omega (arith, kept-next from n, goes-up base table from n (λ d a b. h d a (omega arith)), h (from + n) (omega arith) (omega arith), ap (entry base table) e)
 
 keep-same : (p q : ℕ → Bool) (a n : ℕ) → ((d : ℕ) → a ≤ d → d < a + n → p d ≡ q d) → keep p (span a n) ≡ keep q (span a n)
 unfolding keep span
@@ -82,12 +75,12 @@ keep-same p q a (suc n) h =
 -- ---- a table of counts, and what is counted
 
 pub rises-between :
-    (table : List ℕ) (from to : ℕ) → Rises from to table → from ≤ to →
-    entry table from + length (keep (steps table) (datesBetween from to)) ≡ entry table (to + 1)
+    (base : ℕ) (table : List ℕ) (from to : ℕ) → Rises base from to table → from ≤ to →
+    entry base table from + length (keep (steps base table) (datesBetween from to)) ≡ entry base table (to + 1)
 unfolding datesBetween
-rises-between table from to r h =
+rises-between base table from to r h =
     let e : from + (to + 1 - from) ≡ to + 1 = omega arith in
-    goes-up (steps table) table from (to + 1 - from) (λ d a b. r .by d a (omega arith)) ∙ ap (entry table) e
+    goes-up (steps base table) base table from (to + 1 - from) (λ d a b. r .by d a (omega arith)) ∙ ap (entry base table) e
 
 -- of no date, none
 pub none-between : (p : ℕ → Bool) (from to : ℕ) → to < from → length (keep p (datesBetween from to)) ≡ 0
@@ -99,35 +92,35 @@ one-step true n = lt-ltb n (n + 1) (omega arith)
 one-step false n = le-ltb n (n + 0) (omega arith)
 
 module _ (p : ℕ → Bool) (first last : ℕ) (table : List ℕ) (t : Counts p first last table) where
-  next-entry : (date : ℕ) → first ≤ date → date ≤ last → entry table (date + 1) ≡ entry table date + one (p date)
+  next-entry : (date : ℕ) → first ≤ date → date ≤ last → entry first table (date + 1) ≡ entry first table date + one (p date)
   next-entry date h k = omega (arith, t .at date h (omega arith), t .at (date + 1) (omega arith) (omega arith), kept-more p first date h)
 
-  steps-are : (date : ℕ) → first ≤ date → date ≤ last → steps table date ≡ p date
-  steps-are date h k = ap (ltb (entry table date)) (next-entry date h k) ∙ one-step (p date) (entry table date)
+  steps-are : (date : ℕ) → first ≤ date → date ≤ last → steps first table date ≡ p date
+  steps-are date h k = ap (ltb (entry first table date)) (next-entry date h k) ∙ one-step (p date) (entry first table date)
 
   module _ (from to : ℕ) (a : first ≤ from) (b : to ≤ last) where
-    pub counts-rise : Rises from to table
-    counts-rise = record { by = λ d h k. next-entry d (omega arith) (omega arith) ∙ sym (ap (λ (b : Bool). entry table d + one b) (steps-are d (omega arith) (omega arith))) }
+    pub counts-rise : Rises first from to table
+    counts-rise = record { by = λ d h k. next-entry d (omega arith) (omega arith) ∙ sym (ap (λ (b : Bool). entry first table d + one b) (steps-are d (omega arith) (omega arith))) }
 
-    pub counts-keep : keep (steps table) (datesBetween from to) ≡ keep p (datesBetween from to)
+    pub counts-keep : keep (steps first table) (datesBetween from to) ≡ keep p (datesBetween from to)
     unfolding datesBetween
-    counts-keep = keep-same (steps table) p from (to + 1 - from) (λ d h k. steps-are d (omega arith) (omega arith))
+    counts-keep = keep-same (steps first table) p from (to + 1 - from) (λ d h k. steps-are d (omega arith) (omega arith))
 
 -- a table that counts a calendar's working dates has its working days between any two of its dates
 pub counts-working :
     (c : Calendar) (first last : ℕ) (table : List ℕ) → Counts (isWorking c) first last table → (from to : ℕ) → first ≤ from → to ≤ last →
-    keep (steps table) (datesBetween from to) ≡ workingDays c from to
+    keep (steps first table) (datesBetween from to) ≡ workingDays c from to
 unfolding workingDays
 counts-working c first last table t from to a b = counts-keep (isWorking c) first last table t from to a b
 
 -- what counts the dates that a table of days has counts those that it shows
-pub counts-shown : (p : ℕ → Bool) (from to : ℕ) (days table : List ℕ) → Shows p from to days → Counts (works days) from to table → Counts p from to table
+pub counts-shown : (p : ℕ → Bool) (from to : ℕ) (days table : List ℕ) → Shows p from to days → Counts (works from days) from to table → Counts p from to table
 counts-shown p from to days table s t =
-    record { at = λ date h k. t .at date h k ∙ ap length (keep-same (works days) p from (date - from) (λ d a b. shown d a (omega arith))) }
+    record { at = λ date h k. t .at date h k ∙ ap length (keep-same (works from days) p from (date - from) (λ d a b. shown d a (omega arith))) }
   where
     is-one : (b : Bool) → eqb (one b) 1 ≡ b
     is-one true = refl
     is-one false = refl
 
-    shown : (d : ℕ) → from ≤ d → d ≤ to → works days d ≡ p d
+    shown : (d : ℕ) → from ≤ d → d ≤ to → works from days d ≡ p d
     shown d a b = ap (λ (n : ℕ). eqb n 1) (s .at d a b) ∙ is-one (p d)

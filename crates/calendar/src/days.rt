@@ -6,7 +6,7 @@ use fields::kinds::rising;
 use format::Region;
 use records::calendars::read_exception;
 ghost use mathlib.Core.Path.{_≡_};
-ghost use Prim.Native.Nat.{ℕ, _≤_};
+ghost use Prim.Native.Nat.{ℕ, _+_, _-_, _≤_};
 ghost use lib.ListN.{length};
 ghost use Rattle.format.specs.InRange.{CalendarInRange};
 ghost use Rattle.format.specs.Book as content;
@@ -15,42 +15,43 @@ ghost use Rattle.book.specs.Sections.{elements, calendarOf};
 ghost use Rattle.model.specs.Calendar.{isWorking};
 ghost use Rattle.calendar.specs.Tables.{usual, one, Shows, marked, overlaid};
 
-fn bit(works: bool) -> u64
+fn bit(works: bool) -> u8
     ensures { λ r. ⌜ r ≡ one works ⌝ }
 {
     if works { 1 } else { 0 }
 }
 
 // Sets a date, if the table has it.
-fn mark(days: &mut [u64], date: u64, works: bool)
-    ensures { λ r. ⌜ now (days .exit) ≡ marked date works (now (days .entry)) ⌝ }
+fn mark(days: &mut [u8], base: u64, date: u64, works: bool)
+    ensures { λ r. ⌜ now (days .exit) ≡ marked base date works (now (days .entry)) ⌝ }
 {
-    if date < 10957 {
+    if date < base {
         return;
     }
-    let i = (date - 10957) as usize;
+    let i = (date - base) as usize;
     if i < days.len() {
         days[i] = bit(works);
     }
 }
 
 // The week and the region, on each date between two.
-fn fill_usual(week: u64, region: Region, from: u64, to: u64, days: &mut [u64])
-    requires { ⌜ (10957 ≤ from) × (to ≤ 47481) ⌝ }
-    requires { ⌜ length (now days) ≡ 36525 ⌝ }
+fn fill_usual(week: u64, region: Region, from: u64, to: u64, days: &mut [u8])
+    requires { ⌜ to ≤ 47481 ⌝ }
+    requires { ⌜ to + 1 - from ≤ length (now days) ⌝ }
     ensures { λ r. ⌜ Shows (usual week region) from to (now (days .exit)) ⌝ }
 {
     let mut date = from;
     while date <= to {
         let works = usual_day(week, region, date);
-        mark(days, date, works);
+        let i = (date - from) as usize;
+        days[i] = bit(works);
         date += 1;
     }
 }
 
 // Sets each date of a list of days.
-fn overlay_days(book: &[u8], list: Section, works: bool, days: &mut [u64])
-    ensures { λ r. ⌜ now (days .exit) ≡ overlaid (λ (day : ℕ). day) (λ day. works) (elements layout.rising (λ before day. day) 0 (now (book .entry)) list) (now (days .entry)) ⌝ }
+fn overlay_days(book: &[u8], list: Section, works: bool, base: u64, days: &mut [u8])
+    ensures { λ r. ⌜ now (days .exit) ≡ overlaid base (λ (day : ℕ). day) (λ day. works) (elements layout.rising (λ before day. day) 0 (now (book .entry)) list) (now (days .entry)) ⌝ }
 {
     let count = list.count;
     let mut next = list.first;
@@ -58,7 +59,7 @@ fn overlay_days(book: &[u8], list: Section, works: bool, days: &mut [u64])
     let mut i: u64 = 0;
     while i < count {
         let d = rising(book, next, before);
-        mark(days, d.value, works);
+        mark(days, base, d.value, works);
         before = d.value;
         next = d.next;
         i += 1;
@@ -66,8 +67,8 @@ fn overlay_days(book: &[u8], list: Section, works: bool, days: &mut [u64])
 }
 
 // Sets the date of each exception as it says.
-fn overlay_exceptions(book: &[u8], list: Section, days: &mut [u64])
-    ensures { λ r. ⌜ now (days .exit) ≡ overlaid (λ (e : content.Exception). e .day) (λ e. e .working) (elements layout.exception (λ before e. e .day) 0 (now (book .entry)) list) (now (days .entry)) ⌝ }
+fn overlay_exceptions(book: &[u8], list: Section, base: u64, days: &mut [u8])
+    ensures { λ r. ⌜ now (days .exit) ≡ overlaid base (λ (e : content.Exception). e .day) (λ e. e .working) (elements layout.exception (λ before e. e .day) 0 (now (book .entry)) list) (now (days .entry)) ⌝ }
 {
     let count = list.count;
     let mut next = list.first;
@@ -75,17 +76,17 @@ fn overlay_exceptions(book: &[u8], list: Section, days: &mut [u64])
     let mut i: u64 = 0;
     while i < count {
         let e = read_exception(book, next, before);
-        mark(days, e.day, e.working);
+        mark(days, base, e.day, e.working);
         before = e.day;
         next = e.next;
         i += 1;
     }
 }
 
-// The calendar's days between two dates: what is set later counts more.
-pub fn fill_days(book: &[u8], calendar: Calendar, from: u64, to: u64, days: &mut [u64])
-    requires { ⌜ (10957 ≤ from) × (to ≤ 47481) ⌝ }
-    requires { ⌜ length (now days) ≡ 36525 ⌝ }
+// The calendar's days between two dates, the first of them the table's base: what is set later counts more.
+pub fn fill_days(book: &[u8], calendar: Calendar, from: u64, to: u64, days: &mut [u8])
+    requires { ⌜ to ≤ 47481 ⌝ }
+    requires { ⌜ to + 1 - from ≤ length (now days) ⌝ }
     requires { ⌜ CalendarInRange (calendarOf (now book) calendar) ⌝ }
     ensures { λ r. ⌜ Shows (isWorking (calendarOf (now (book .entry)) calendar)) from to (now (days .exit)) ⌝ }
 {
@@ -94,7 +95,7 @@ pub fn fill_days(book: &[u8], calendar: Calendar, from: u64, to: u64, days: &mut
     let extra = calendar.extra;
     let exceptions = calendar.exceptions;
     fill_usual(calendar.week, region, from, to, days);
-    overlay_days(book, holidays, false, days);
-    overlay_days(book, extra, true, days);
-    overlay_exceptions(book, exceptions, days);
+    overlay_days(book, holidays, false, from, days);
+    overlay_days(book, extra, true, from, days);
+    overlay_exceptions(book, exceptions, from, days);
 }

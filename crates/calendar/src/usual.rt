@@ -31,8 +31,8 @@ pub fn usual_day(week: u64, region: Region, date: u64) -> bool
     requires { ⌜ date ≤ 47481 ⌝ }
     ensures { λ r. ⌜ r ≡ usual week region date ⌝ }
 {
-    if is_region_holiday(region, date) {
-        return false;
+    if works_on_week(week, date) {
+        return !is_region_holiday(region, date);
     }
-    works_on_week(week, date)
+    false
 }

@@ -3,3 +3,5 @@ pub mod Changes
 pub mod Lift
 pub mod Shares
 pub mod Stretches
+pub mod Calendars
+pub mod Columns

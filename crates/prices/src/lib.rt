@@ -2,4 +2,5 @@
 pub mod days;
 pub mod effect;
 pub mod repeated;
+pub mod resources;
 pub mod span;

@@ -6,7 +6,7 @@ use borrow.Author.Needs.{needs}
 use lib.ListN.{length, length-set}
 use Rattle.model.specs.Lists.{span, keep}
 use Rattle.calendar.specs.Tables.{entry, works}
-use Rattle.calendar.proofs.Spans.{one-most, kept-none, kept-more, counted-more}
+use Rattle.calendar.proofs.Spans.{entries-more, one-most, kept-none, kept-more}
 use Rattle.calendar.proofs.counts.count_days.Statement.{statement}
 use Rattle.calendar.proofs.counts.count_days.Tie as tie
 
@@ -15,8 +15,8 @@ Inv-loop days counts₀ from to n₀ date₀ counts n date =
     (from ≤ date)
     × (length counts ≡ length counts₀)
     × (n ≤ date - from)
-    × (n ≡ length (keep (works days) (span from (date - from))))
-    × ((e : ℕ) → from ≤ e → e < date → entry counts e ≡ length (keep (works days) (span from (e - from))))
+    × (n ≡ length (keep (works from days) (span from (date - from))))
+    × ((e : ℕ) → from ≤ e → e < date → entry from counts e ≡ length (keep (works from days) (span from (e - from))))
 
 abbrev μ-loop : tie.MeasureT-loop
 μ-loop days counts₀ from to n₀ date₀ counts n date = to + 2 - date
@@ -42,7 +42,7 @@ worked-requires c κs = omega arith
 add-n : tie.Need-add-n Inv-loop μ-loop
 add-n c =
     let s = c .before .before .before .before .before .args in
-    omega (arith, c .worked .ensures, one-most (works (s .days .now) (c .before .before .loop .date)))
+    omega (arith, c .worked .ensures, one-most (works (s .from) (s .days .now) (c .before .before .loop .date)))
 
 add-date : tie.Need-add-date Inv-loop μ-loop
 add-date c = search needs
@@ -54,12 +54,12 @@ loop-again : tie.Need-loop-again Inv-loop μ-loop
 loop-again c =
     let s = c .before .before .before .before .before .args in
     let l = c .before .before .loop in
-    let p = works (s .days .now) in (
+    let p = works (s .from) (s .days .now) in (
       omega arith,
-      length-set (l .counts) (l .date - 10957) (l .n) ∙ l .inv .1,
+      length-set (l .counts) (l .date - s .from) (l .n) ∙ l .inv .1,
       omega (arith, c .worked .ensures, one-most (p (l .date))),
       omega (arith, c .worked .ensures, kept-more p (s .from) (l .date) (l .inv .0)),
-      counted-more p (s .from) (l .date) (l .counts) (l .n) (omega arith) (omega arith) (omega arith) (l .inv .3) (l .inv .4),
+      entries-more (λ e. length (keep p (span (s .from) (e - s .from)))) (s .from) (l .date) (l .counts) (l .n) (omega arith) (omega arith) (l .inv .3) (l .inv .4),
     )
 
 same-length : tie.Need-same-length Inv-loop μ-loop

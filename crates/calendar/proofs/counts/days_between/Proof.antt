@@ -33,12 +33,12 @@ shared-slice-read-through c = search needs
 sub-result : tie.Need-sub-result
 sub-result c =
     let s = c .before .before .before in
-    omega (arith, rises-between (s .args .counts .now) (s .args .from) (s .args .to) (s .pre .1 .1) (c .before .before .if1 .left))
+    omega (arith, rises-between (s .args .base) (s .args .counts .now) (s .args .from) (s .args .to) (s .pre .1 .1) (c .before .before .if1 .left))
 
 returns-2 : tie.Need-returns-2
 returns-2 c =
     let s = c .before .before .before in
-    omega (arith, rises-between (s .args .counts .now) (s .args .from) (s .args .to) (s .pre .1 .1) (c .before .before .if1 .left))
+    omega (arith, rises-between (s .args .base) (s .args .counts .now) (s .args .from) (s .args .to) (s .pre .1 .1) (c .before .before .if1 .left))
 
 pub days-between-spec : {M : Type 1} → statement M
 days-between-spec =

@@ -12,9 +12,6 @@ use Rattle.calendar.proofs.counts.worked.Tie as tie
 sub-i : tie.Need-sub-i
 sub-i c = search needs
 
-mul-if2 : tie.Need-mul-if2
-mul-if2 c = search needs
-
 shared-slice-read-if2 : tie.Need-shared-slice-read-if2
 shared-slice-read-if2 c = search needs
 
@@ -27,7 +24,7 @@ returns-2 c = ap one (sym (ne-eqb _ 1 (c .if2 .left)))
 returns-3 : tie.Need-returns-3
 returns-3 c =
     let s = c .before .args in
-    ap (λ (x : ℕ). one (eqb x 1)) (sym (List·getD-eq-default (s .days .now) 0 {n = s .date - 10957} (c .if1 .left)))
+    ap (λ (x : ℕ). one (eqb x 1)) (sym (List·getD-eq-default (s .days .now) 0 {n = s .date - s .base} (c .if1 .left)))
 
 pub worked-spec : {M : Type 1} → statement M
-worked-spec = tie.close (tie.spec sub-i mul-if2 shared-slice-read-if2 returns returns-2 returns-3)
+worked-spec = tie.close (tie.spec sub-i shared-slice-read-if2 returns returns-2 returns-3)

@@ -16,9 +16,9 @@ same-length c =
     let extra = exceptions .before .before .before .before in
     let holidays = extra .before .before .before .before in
     let usual = holidays .before .before .before .before in
-    exceptions .overlay-exceptions .kept .1 .1 .0
-    ∙ extra .overlay-days2 .kept .1 .1 .1 .0
-    ∙ holidays .overlay-days .kept .1 .1 .1 .0
+    exceptions .overlay-exceptions .kept .1 .1 .1 .0
+    ∙ extra .overlay-days2 .kept .1 .1 .1 .1 .0
+    ∙ holidays .overlay-days .kept .1 .1 .1 .1 .0
     ∙ usual .fill-usual .kept .1 .1 .1 .1 .0
 
 returns : tie.Need-returns
@@ -29,8 +29,8 @@ returns c =
     let holidays = extra .before .before .before .before in
     let usual = holidays .before .before .before .before in
     let s = usual .before .before .before .before .before .before .before in
-    shows-working (calendarOf (s .args .book .now) (s .args .calendar)) (s .pre .1 .1) (s .args .from) (s .args .to) (omega arith) (omega arith)
-    (usual .fill-usual .kept .1 .1 .1 .1 .0 ∙ s .pre .1 .0)
+    shows-working (calendarOf (s .args .book .now) (s .args .calendar)) (s .pre .1 .1) (s .args .from) (s .args .to)
+    (omega (arith, usual .fill-usual .kept .1 .1 .1 .1 .0))
     (usual .fill-usual .ensures)
     (holidays .overlay-days .ensures)
     (extra .overlay-days2 .ensures)

@@ -11,10 +11,7 @@ use Rattle.calendar.proofs.days.mark.Tie as tie
 
 returns : tie.Need-returns
 unfolding marked
-returns c = rw (lt-leb 10957 (c .before .before .args .date) (c .if1 .taken))
-
-mul-days : tie.Need-mul-days
-mul-days c = search needs
+returns c = rw (lt-leb (c .before .before .args .base) (c .before .before .args .date) (c .if1 .taken))
 
 slice-write-days : tie.Need-slice-write-days
 slice-write-days c = search needs
@@ -26,13 +23,13 @@ returns-2 : tie.Need-returns-2
 unfolding marked
 returns-2 c =
     let s = c .before .before .before .before .args in
-    rw (le-leb 10957 (s .date) (c .before .before .if1 .left)) (ap (set (s .days .now) (s .date - 10957)) (c .bit .ensures))
+    rw (le-leb (s .base) (s .date) (c .before .before .if1 .left)) (ap (set (s .days .now) (s .date - s .base)) (c .bit .ensures))
 
 returns-3 : tie.Need-returns-3
 unfolding marked
 returns-3 c =
     let s = c .before .before .before .args in
-    rw (le-leb 10957 (s .date) (c .before .if1 .left)) (sym (set-out _ _ _ (c .if2 .left)))
+    rw (le-leb (s .base) (s .date) (c .before .if1 .left)) (sym (set-out _ _ _ (c .if2 .left)))
 
 pub mark-spec : {M : Type 1} → statement M
-mark-spec = tie.close (tie.spec returns (λ c κs. tt) mul-days slice-write-days same-length returns-2 returns-3)
+mark-spec = tie.close (tie.spec returns (λ c κs. tt) slice-write-days same-length returns-2 returns-3)

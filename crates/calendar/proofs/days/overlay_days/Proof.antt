@@ -8,14 +8,14 @@ use Rattle.calendar.proofs.days.overlay_days.Statement.{statement}
 use Rattle.calendar.proofs.days.overlay_days.Tie as tie
 
 abbrev Inv-loop : tie.InvT-loop
-Inv-loop book works days₀ count next₀ before₀ i₀ days next before i =
-    Overlaying (λ (day : ℕ). day) (λ day. works) rising (λ (b d : ℕ). d) book count 0 next₀ days₀ i before next days
+Inv-loop book works base days₀ count next₀ before₀ i₀ days next before i =
+    Overlaying base (λ (day : ℕ). day) (λ day. works) rising (λ (b d : ℕ). d) book count 0 next₀ days₀ i before next days
 
 abbrev μ-loop : tie.MeasureT-loop
-μ-loop book works days₀ count next₀ before₀ i₀ days next before i = count - i
+μ-loop book works base days₀ count next₀ before₀ i₀ days next before i = count - i
 
 loop-holds : tie.Need-loop-holds Inv-loop μ-loop
-loop-holds c = overlaying-none _ _ _ _ _ _ _ _ _
+loop-holds c = overlaying-none _ _ _ _ _ _ _ _ _ _
 
 add-i : tie.Need-add-i Inv-loop μ-loop
 add-i c = search needs

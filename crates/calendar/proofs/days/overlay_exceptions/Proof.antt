@@ -10,14 +10,14 @@ use Rattle.calendar.proofs.days.overlay_exceptions.Statement.{statement
 use Rattle.calendar.proofs.days.overlay_exceptions.Tie as tie
 
 abbrev Inv-loop : tie.InvT-loop
-Inv-loop book days₀ count next₀ before₀ i₀ days next before i =
-    Overlaying (λ (e : content.Exception). e .day) (λ e. e .working) exception (λ (b : ℕ) (e : content.Exception). e .day) book count 0 next₀ days₀ i before next days
+Inv-loop book base days₀ count next₀ before₀ i₀ days next before i =
+    Overlaying base (λ (e : content.Exception). e .day) (λ e. e .working) exception (λ (b : ℕ) (e : content.Exception). e .day) book count 0 next₀ days₀ i before next days
 
 abbrev μ-loop : tie.MeasureT-loop
-μ-loop book days₀ count next₀ before₀ i₀ days next before i = count - i
+μ-loop book base days₀ count next₀ before₀ i₀ days next before i = count - i
 
 loop-holds : tie.Need-loop-holds Inv-loop μ-loop
-loop-holds c = overlaying-none _ _ _ _ _ _ _ _ _
+loop-holds c = overlaying-none _ _ _ _ _ _ _ _ _ _
 
 add-i : tie.Need-add-i Inv-loop μ-loop
 add-i c = search needs

@@ -1,0 +1,5 @@
+pub mod Dates
+pub mod Covering
+pub mod Days
+pub mod Leaves
+pub mod Plans

@@ -1,0 +1,151 @@
+-- The plan of an accepted book, from its layout.
+use Prim.Native.Nat.{ℕ, _≤_}
+use native.Mathlib.Omega.{arith}
+use mathlib.Core.Path.{_≡_, ap, sym, _∙_}
+use mathlib.Core.List.{List, []}
+use mathlib.Core.Option.{Option, none, some, Option·getD}
+use lib.ListN.{length}
+use Rattle.format.specs.declared.Pos.{Pos}
+use Rattle.format.specs.declared.Pos.the-variants.{At}
+use Rattle.format.specs.Bytes.{Bytes}
+use Rattle.format.specs.Inverse.{Given}
+use Rattle.format.specs.Codec.{Codec, marked, upTo}
+use Rattle.format.specs.Records.{nextOf}
+use Rattle.format.specs.Book.{BaselineLine, Book}
+use Rattle.format.specs.Format.{baselineLine}
+use Rattle.format.specs.Verdict.{content, verdict}
+use Rattle.format.specs.InRange.{Every, ActivityInRange, AssignmentInRange, ExpenseInRange, BaselineLineInRange, BaselineInRange}
+use Rattle.format.proofs.Walks.{began}
+use Rattle.format.proofs.Theorems.{verdict-accepts, content-limits, content-in-range}
+use Rattle.fields.specs.declared.OptionalNumber.{OptionalNumber}
+use Rattle.book.specs.declared.Section.{Section}
+use Rattle.book.specs.declared.layout.Plan.{Plan}
+use Rattle.book.specs.declared.layout.Layout.{Layout}
+use Rattle.book.specs.Sections.{IsAlike, alikeIn}
+use Rattle.book.specs.Layout.{IsLayout, bookOf}
+use Rattle.book.specs.Plan.{Placed, IsPlanOf, IsBaselineOf}
+use Rattle.book.proofs.Whole.{layout-book}
+use Rattle.book.proofs.Index.{Stands, alike-length, element-placed, ended, back}
+
+-- ---- from the layout
+
+placed :
+    {A : Type 0} {low most : ℕ} {c : Codec A} {s : List ℕ} {p : Pos} {l : Section} → IsAlike low most c s p l → Stands (l .next) →
+    (xs : List A) → alikeIn c s l ≡ xs → Placed c s l xs
+placed {c} {s} {l} i stands xs e = record { listed = sym e; at = λ t k d room h. rw (← e) (element-placed i stands t k d room h) }
+
+module _ (s : List ℕ) (r : Layout) (l : IsLayout s r) where
+  same : bookOf s r ≡ content s
+  same = ap (λ v. v .0) (layout-book s r l)
+
+  ends : r .end ≡ verdict s
+  ends = ap (λ v. v .1) (layout-book s r l)
+
+  pub baseline-of : IsBaselineOf s (r .plan) (r .ledger .baseline)
+  unfolding bookOf
+  baseline-of = record { lines = sym (ap (λ (b : Book). b .baseline) same) }
+
+  pub technique-of : content s .technique ≡ r .header .technique
+  unfolding bookOf
+  technique-of = sym (ap (λ (b : Book). b .technique) same)
+
+  module _ (j : ℕ) (accepted : verdict s ≡ At j) where
+    baseline-stands : Stands (r .ledger .baseline .next)
+    baseline-stands =
+        let ledger = l .ledger in
+        back (ledger .budgets)
+        (back (ledger .log)
+        (back (ledger .funds) (back (ledger .periods) (back (ledger .records) (ended s _ j (sym (l .last) ∙ ends ∙ accepted))))))
+
+    expenses-stand : Stands (r .plan .expenses .next)
+    expenses-stand = began (marked (upTo 1000 (baselineLine (r .plan .activities .count)))) s _ _ (sym (ap nextOf (l .ledger .baseline)) ∙ baseline-stands)
+
+    assignments-stand : Stands (r .plan .assignments .next)
+    assignments-stand = back (l .plan .expenses) expenses-stand
+
+    resources-stand : Stands (r .plan .resources .next)
+    resources-stand = back (l .plan .assignments) assignments-stand
+
+    activities-stand : Stands (r .plan .activities .next)
+    activities-stand = back (l .plan .resources) resources-stand
+
+    calendars-stand : Stands (r .plan .calendars .next)
+    calendars-stand = back (l .plan .activities) activities-stand
+
+    pub plan-of : Bytes s → IsPlanOf s (r .header .date) (r .plan)
+    unfolding bookOf
+    plan-of bytes =
+        record {
+          accepted = verdict-accepts s bytes j accepted;
+          dataDate = sym (ap (λ (b : Book). b .dataDate) same);
+          calendars = placed (l .plan .calendars) calendars-stand _ (ap (λ (b : Book). b .calendars) same);
+          activities = placed (l .plan .activities) activities-stand _ (ap (λ (b : Book). b .activities) same);
+          resources = placed (l .plan .resources) resources-stand _ (ap (λ (b : Book). b .resources) same);
+          assignments = placed (l .plan .assignments) assignments-stand _ (ap (λ (b : Book). b .assignments) same);
+          expenses = placed (l .plan .expenses) expenses-stand _ (ap (λ (b : Book). b .expenses) same);
+        }
+
+-- ---- counts
+
+-- the lines of a baseline that may be absent
+lines-most : (n : ℕ) (o : Option (List BaselineLine)) → Given (BaselineInRange n) o → length (Option·getD o []) ≤ 1000
+lines-most n none h = omega arith
+lines-most n (some l) h = h .most
+
+lines-range : (n : ℕ) (o : Option (List BaselineLine)) → Given (BaselineInRange n) o → Every (BaselineLineInRange n) (Option·getD o [])
+lines-range n none h = λ k d l. absurd (omega arith)
+lines-range n (some l) h = h .lines
+
+pub placed-count : {A : Type 0} {c : Codec A} {s : List ℕ} {l : Section} {xs : List A} → Placed c s l xs → length xs ≡ l .count
+placed-count {c} {s} {l} p = ap length (p .listed) ∙ alike-length c s l
+
+module _ {s : List ℕ} {date : OptionalNumber} {plan : Plan} (p : IsPlanOf s date plan) where
+  pub calendars-count : length (content s .calendars) ≡ plan .calendars .count
+  calendars-count = placed-count (p .calendars)
+
+  pub activities-count : length (content s .activities) ≡ plan .activities .count
+  activities-count = placed-count (p .activities)
+
+  pub resources-count : length (content s .resources) ≡ plan .resources .count
+  resources-count = placed-count (p .resources)
+
+  pub assignments-count : length (content s .assignments) ≡ plan .assignments .count
+  assignments-count = placed-count (p .assignments)
+
+  pub expenses-count : length (content s .expenses) ≡ plan .expenses .count
+  expenses-count = placed-count (p .expenses)
+
+  pub calendars-least : 1 ≤ plan .calendars .count
+  calendars-least = rw calendars-count at (content-limits s (p .accepted) .someCalendar)
+
+  pub calendars-most : plan .calendars .count ≤ 16
+  calendars-most = rw calendars-count at (content-limits s (p .accepted) .calendars)
+
+  pub activities-most : plan .activities .count ≤ 500
+  activities-most = rw activities-count at (content-limits s (p .accepted) .activities)
+
+  pub resources-most : plan .resources .count ≤ 200
+  resources-most = rw resources-count at (content-limits s (p .accepted) .resources)
+
+  pub assignments-most : plan .assignments .count ≤ 2000
+  assignments-most = rw assignments-count at (content-limits s (p .accepted) .assignments)
+
+  pub expenses-most : plan .expenses .count ≤ 1000
+  expenses-most = rw expenses-count at (content-limits s (p .accepted) .expenses)
+
+  pub lines-count : length (Option·getD (content s .baseline) []) ≤ 1000
+  lines-count = lines-most _ (content s .baseline) (content-in-range s (p .accepted) .baseline)
+
+  -- ---- ranges, with the plan's counts
+
+  pub activities-in-range : Every (ActivityInRange (plan .calendars .count) (plan .activities .count)) (content s .activities)
+  activities-in-range = rw (← calendars-count, ← activities-count) (content-in-range s (p .accepted) .activities)
+
+  pub assignments-in-range : Every (AssignmentInRange (plan .activities .count) (plan .resources .count)) (content s .assignments)
+  assignments-in-range = rw (← activities-count, ← resources-count) (content-in-range s (p .accepted) .assignments)
+
+  pub expenses-in-range : Every (ExpenseInRange (plan .activities .count)) (content s .expenses)
+  expenses-in-range = rw (← activities-count) (content-in-range s (p .accepted) .expenses)
+
+  pub lines-in-range : Every (BaselineLineInRange (plan .activities .count)) (Option·getD (content s .baseline) [])
+  lines-in-range = rw (← activities-count) (lines-range _ (content s .baseline) (content-in-range s (p .accepted) .baseline))

@@ -1,0 +1,39 @@
+-- The plan of an accepted book: the content's lists are what stands at its places.
+use Prim.Native.Nat.{ℕ, _≤_, _<_}
+use mathlib.Core.Path.{_≡_}
+use mathlib.Core.List.{List}
+use lib.ListN.{length, getD}
+use lib.Seq.{sets}
+use Rattle.format.specs.declared.Pos.the-variants.{At}
+use Rattle.format.specs.Codec.{Codec}
+use Rattle.format.specs.Format as layout
+use Rattle.format.specs.Verdict.{content, Accepted}
+use Rattle.fields.specs.declared.OptionalNumber.{OptionalNumber}
+use Rattle.fields.specs.Optional.{numberOption}
+use Rattle.book.specs.declared.Section.{Section}
+use Rattle.book.specs.declared.layout.Plan.{Plan}
+use Rattle.book.specs.declared.layout.Baseline.{Baseline}
+use Rattle.book.specs.Sections.{alikeIn}
+use Rattle.book.specs.Layout.{linesOf}
+use Rattle.book.specs.Places.{placesIn}
+
+-- xs are the elements of a list of the book, and each of them is what is read at its place; `t`: what an index held before it was filled
+pub record Placed {A : Type 0} (c : Codec A) (s : List ℕ) (l : Section) (xs : List A) : Type 0 where
+  pub listed : xs ≡ alikeIn c s l
+  pub at :
+      (t : List ℕ) (k : ℕ) (d : A) → l .count ≤ length t → k < l .count →
+      getD xs k d ≡ c .read s (At (getD (sets t 0 (placesIn c s l)) k 0)) .0
+
+-- s is an accepted book, with this data date and this plan
+pub record IsPlanOf (s : List ℕ) (date : OptionalNumber) (plan : Plan) : Type 0 where
+  pub accepted : Accepted s
+  pub dataDate : content s .dataDate ≡ numberOption date
+  pub calendars : Placed layout.calendar s (plan .calendars) (content s .calendars)
+  pub activities : Placed (layout.activity (plan .calendars .count) (plan .activities .count)) s (plan .activities) (content s .activities)
+  pub resources : Placed layout.resource s (plan .resources) (content s .resources)
+  pub assignments : Placed (layout.assignment (plan .activities .count) (plan .resources .count)) s (plan .assignments) (content s .assignments)
+  pub expenses : Placed (layout.expense (plan .activities .count)) s (plan .expenses) (content s .expenses)
+
+-- the book with this plan has this baseline
+pub record IsBaselineOf (s : List ℕ) (plan : Plan) (baseline : Baseline) : Type 0 where
+  pub lines : content s .baseline ≡ linesOf s (plan .activities .count) baseline
