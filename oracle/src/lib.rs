@@ -3,6 +3,7 @@
 
 pub mod arguments;
 pub mod book;
+pub mod called;
 pub mod calls;
 pub mod damage;
 pub mod encode;

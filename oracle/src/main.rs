@@ -4,7 +4,7 @@ use std::io::{Read, Write, stdin, stdout};
 use std::process::ExitCode;
 
 use oracle::damage::Damage;
-use oracle::{generate, sample, selftest, status, traps, vectors, verdicts};
+use oracle::{called, generate, sample, selftest, status, traps, vectors, verdicts};
 
 const USAGE: &str = "oracle answer CALL [ASKED..] < BOOK
 oracle status < BOOK
@@ -13,6 +13,7 @@ oracle generate KIND SEED > BOOK
 oracle sample KIND SEED
 oracle vectors SEED COUNT
 oracle verdicts TRAPS
+oracle calls TRAPS
 oracle selftest [BOOKS]";
 
 fn main() -> ExitCode {
@@ -34,6 +35,9 @@ fn main() -> ExitCode {
         ["verdicts", file] => std::fs::read_to_string(file)
             .ok()
             .and_then(|traps| print(verdicts::text(&traps).as_bytes())),
+        ["calls", file] => std::fs::read_to_string(file)
+            .ok()
+            .and_then(|traps| print(called::text(&traps).as_bytes())),
         ["selftest"] => selftest(400),
         ["selftest", books] => number(books).and_then(selftest),
         _ => None,

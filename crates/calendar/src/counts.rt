@@ -1,8 +1,13 @@
 // Running counts of working dates.
+use crate::days::fill_days;
+use book::calendars::Calendar;
 ghost use mathlib.Core.Path.{_≡_};
 ghost use Prim.Native.Nat.{_+_, _-_, _≤_, _<_};
 ghost use lib.ListN.{length};
+ghost use Rattle.format.specs.InRange.{CalendarInRange};
+ghost use Rattle.book.specs.Sections.{calendarOf};
 ghost use Rattle.model.specs.Lists.{keep};
+ghost use Rattle.model.specs.Calendar.{isWorking};
 ghost use Rattle.model.specs.Days.{datesBetween};
 ghost use Rattle.calendar.specs.Tables.{one, works, steps, Counts, Rises};
 
@@ -34,6 +39,24 @@ pub fn count_days(days: &[u8], counts: &mut [u64], from: u64, to: u64)
         n += worked(days, from, date);
         date += 1;
     }
+}
+
+// The same of a calendar of the book, by way of a table of its days.
+pub fn fill_counts(
+    book: &[u8],
+    calendar: Calendar,
+    from: u64,
+    to: u64,
+    days: &mut [u8],
+    counts: &mut [u64],
+)
+    requires { ⌜ to ≤ 47481 ⌝ }
+    requires { ⌜ (to + 1 - from ≤ length (now days)) × (to + 1 - from < length (now counts)) ⌝ }
+    requires { ⌜ CalendarInRange (calendarOf (now book) calendar) ⌝ }
+    ensures { λ r. ⌜ Counts (isWorking (calendarOf (now (book .entry)) calendar)) from to (now (counts .exit)) ⌝ }
+{
+    fill_days(book, calendar, from, to, days);
+    count_days(days, counts, from, to);
 }
 
 // How many dates between two work, both included.

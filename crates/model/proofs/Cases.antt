@@ -6,6 +6,7 @@ use mathlib.Core.Option.{Option, none, some, orElse}
 use Prim.Native.Nat.{ℕ}
 use native.Mathlib.Omega.{arith}
 use lib.ListN.{getD}
+use lib.Ieee.{Float, ofInt, mul, div, lt}
 use lib.IntN.{ℤ, pos, negsuc, _+ℤ_, _-ℤ_}
 use mir.Syntax.{w64}
 use Rattle.integer.specs.Clamp.{clamp}
@@ -13,16 +14,19 @@ use Rattle.integer.specs.Folds.{saturated}
 use Rattle.money.specs.declared.costs.Cost.{Cost}
 use Rattle.money.specs.Scale.{inRange, scaledBy}
 use Rattle.money.specs.Shares.{shareOf, sharesFrom}
+use Rattle.floats.specs.Rounding.{rounded, wholeOf}
+use Rattle.floats.specs.Figures.{earnedOf}
 use Rattle.format.specs.declared.Status.{Status}
 use Rattle.format.specs.declared.Status.the-variants.{NotStarted, InProgress, Completed}
-use Rattle.format.specs.declared.EvTechnique.the-variants.{Physical}
+use Rattle.format.specs.declared.EvTechnique.{EvTechnique}
+use Rattle.format.specs.declared.EvTechnique.the-variants.{Physical, Duration, Units, ZeroHundred, FiftyFifty, Custom}
 use Rattle.format.specs.declared.EtcTechnique.the-variants as etc
 use Rattle.format.specs.declared.ResourceKind.{ResourceKind}
 use Rattle.format.specs.declared.ResourceKind.the-variants.{Labor, Nonlabor}
 use Rattle.format.specs.declared.Accrual.the-variants.{Uniform}
 use Rattle.format.specs.declared.Region.the-variants.{None}
 use Rattle.format.specs.Enumeration.{resourceKindNumber}
-use Rattle.format.specs.Book.{Exception, Calendar, Activity, Resource, Assignment, Expense, Book}
+use Rattle.format.specs.Book.{Exception, Calendar, Activity, Resource, Assignment, Expense, BaselineLine, Book}
 use Rattle.holidays.specs.Holiday.{any}
 use Rattle.model.specs.declared.Way.{Way}
 use Rattle.model.specs.declared.Way.the-variants.{Planned, Actual, Remaining}
@@ -32,6 +36,8 @@ use Rattle.model.specs.Days.{datesBetween, dayList, plannedDays, daysSin
 use Rattle.model.specs.Amounts.{on, spreadOver, saturatedSum, isCharged, pointOn, pointsBetween}
 use Rattle.model.specs.Tree.{Parents, parents, indices, isLeaf, leaves, steps, walk, stepsMade, walkUp, brought, rollUp}
 use Rattle.model.specs.Costs.{priceAmong, priceOn, priced, accrued, assignmentAmounts, expenseAmounts, assignmentsOf, expensesOf, byDay, ownCost, costOf, costs, projectCost, ofKind, kindCost, kindUnits, expenseCost, actualByKind, budgetByDay, spendingBetween}
+use Rattle.model.specs.Planned.{firstLine}
+use Rattle.model.specs.Earned.{unitsDone, unitsInAll, performanceBy}
 use Rattle.model.proofs.Calendar.{weekday-is}
 use Rattle.model.proofs.Days.{day-list-one}
 
@@ -103,6 +109,15 @@ calendar-cases = rw (weekday-is 19723 (omega arith), weekday-is 19728 (omega ari
 pub priced-by-day : priced (pos 2) (20000 ∷ 20001 ∷ []) (λ day. pos 50) ≡ on 20000 (pos 0) ∷ on 20001 (pos 0) ∷ []
 unfolding priced spreadOver shareOf sharesFrom zipWith scaledBy inRange
 priced-by-day = refl
+
+-- ---- the baseline: of two lines of an activity the first counts
+
+abbrev line : ℕ → ℤ → BaselineLine
+line activity cost = record { activity = activity; start = 20000; finish = 20000; minutes = 0; cost = cost }
+
+pub first-of-two : firstLine (line 1 (pos 7) ∷ line 0 (pos 100) ∷ line 0 (pos 200) ∷ []) 0 ≡ some (line 0 (pos 100))
+unfolding firstLine
+first-of-two = refl
 
 -- ---- activities of one day, under any calendar
 
@@ -231,3 +246,47 @@ module _ (calendar : Calendar) where
       actualByKind kindCost kindUnits resourceKindNumber expenseCost ofKind assignmentsOf expensesOf assignmentAmounts expenseAmounts priced spreadOver daysOf
       actualDays saturatedSum keep zipWith sharesFrom saturated
   unstarted-units = refl
+
+  -- ---- earned value of a budget of 1,000: a technique, a status, what is earned
+
+  -- a quarter done as judged, a third of its minutes worked, no units
+  abbrev underWay : Activity
+  underWay =
+      record {
+        parent = none;
+        calendar = none;
+        status = InProgress;
+        earlyStart = 20000;
+        earlyFinish = 20000;
+        actualStart = none;
+        actualFinish = none;
+        workingMinutes = 1440;
+        remainingMinutes = 960;
+        percent = some (pos 2500);
+      }
+
+  abbrev done : EvTechnique → Status → Float
+  done technique status = performanceBy (book calendar none (underWay ∷ []) [] [] []) 0 technique status
+
+  abbrev techniques : List (EvTechnique × Status × ℤ)
+  techniques =
+      -- before the start only a percent that was judged counts
+      (Physical, NotStarted, pos 250)
+      ∷ (Duration, NotStarted, pos 0)
+      ∷ (FiftyFifty, NotStarted, pos 0)
+      ∷ (Custom (pos 2000), NotStarted, pos 0)
+      ∷ (Physical, InProgress, pos 250)
+      ∷ (Duration, InProgress, pos 333)
+      -- without units, by duration
+      ∷ (Units, InProgress, pos 333)
+      ∷ (ZeroHundred, InProgress, pos 0)
+      ∷ (FiftyFifty, InProgress, pos 500)
+      -- from nothing to all
+      ∷ (Custom (negsuc 0), InProgress, pos 0)
+      ∷ (Custom (pos 12000), InProgress, pos 1000)
+      ∷ (ZeroHundred, Completed, pos 1000)
+      ∷ []
+
+  pub earned-cases : map (λ (t : EvTechnique × Status × ℤ). earnedOf (pos 1000) (done (t .0) (t .1))) techniques ≡ map (λ (t : EvTechnique × Status × ℤ). t .2) techniques
+  unfolding unitsDone unitsInAll assignmentsOf keep flatMap saturated rounded wholeOf ofInt mul div lt
+  earned-cases = refl

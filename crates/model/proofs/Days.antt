@@ -1,17 +1,20 @@
 -- A day list is the working dates of its span, rising; without one, the first date alone.
-use Prim.Native.Nat.{ℕ, zero, suc, _+_, _-_, _≤_, _<_}
-use mathlib.Core.Path.{_≡_, refl}
-use mathlib.Core.Logic.{_↔_}
-use mathlib.Core.Bool.{Bool, true, false}
-use mathlib.Core.List.{List, [], _∷_, List·Memᴰ, List·Memᴰ·head, List·Memᴰ·not-nil}
+use Prim.Native.Nat.{ℕ, zero, suc, _+_, _-_, _≤_, _<_, min, max}
+use mathlib.Core.Path.{_≡_, refl, ap₂, _∙_}
+use mathlib.Core.Logic.{_↔_, ⊎-elim}
+use mathlib.Core.Bool.{Bool, true, false, _&&_}
+use mathlib.Core.List.{List, [], _∷_, List·Memᴰ, List·Memᴰ·head, List·Memᴰ·not-nil, List·Memᴰ·cases-cons}
 use native.Mathlib.Omega.{arith}
+use borrow.Author.Tests.{leb-true, le-leb}
+use lib.Dec.{leb}
 use lib.ListN.{length}
+use Rattle.gregorian.proofs.Laws.{and-both}
 use Rattle.format.specs.Book.{Calendar}
 use Rattle.format.specs.InRange.{Rising}
 use Rattle.model.specs.Lists.{span, consIf, keep}
 use Rattle.model.specs.Calendar.{isWorking}
 use Rattle.model.specs.Days.{datesBetween, workingDays, orAlone, dayList}
-use Rattle.model.proofs.Lists.{span-in, in-span, keep-in, in-keep, keep-rises}
+use Rattle.model.proofs.Lists.{span-in, in-span, keep-in, in-keep, keep-keep, keep-rises, rising-same}
 
 -- dates that pass a test, between two dates
 module _ (p : ℕ → Bool) (from to : ℕ) where
@@ -36,6 +39,17 @@ module _ (c : Calendar) (from to : ℕ) where
   unfolding workingDays datesBetween
   working-days-rise = keep-rises (isWorking c) from (to + 1 - from)
 
+  -- those up to a date are the working days of a shorter span
+  pub working-up-to : (date : ℕ) → keep (λ d. leb d date) (workingDays c from to) ≡ workingDays c from (min to date)
+  unfolding workingDays datesBetween
+  working-up-to date =
+      let early : ℕ → Bool = λ d. isWorking c d && leb d date in
+      keep-keep (isWorking c) (λ d. leb d date) (datesBetween from to)
+      ∙ rising-same (keep early (datesBetween from to)) (keep (isWorking c) (datesBetween from (min to date)))
+      (keep-rises early from (to + 1 - from)) (keep-rises (isWorking c) from (min to date + 1 - from))
+      (λ d m. let k = kept-between early from to d m in let b = and-both (isWorking c d) (leb d date) (k .2) in between-kept (isWorking c) from (min to date) d (k .0) (omega (arith, leb-true d date (b .1))) (b .0))
+      (λ d m. let k = kept-between (isWorking c) from (min to date) d m in between-kept early from to d (k .0) (omega arith) (ap₂ _&&_ (k .2) (le-leb d date (omega arith))))
+
   -- ---- the day list: where some date works, these; else the first date alone
   pub day-list-working : (d : ℕ) → from ≤ d → d ≤ to → isWorking c d ≡ true → dayList c from to ≡ workingDays c from to
   unfolding dayList
@@ -52,6 +66,23 @@ module _ (c : Calendar) (from to : ℕ) where
       go : (l : List ℕ) → ((d : ℕ) → List·Memᴰ d l → ⊥) → orAlone from l ≡ from ∷ []
       go [] h = refl
       go (d ∷ ds) h = absurd (h d (List·Memᴰ·head refl))
+
+  -- the same by their number
+  pub day-list-counted : 0 < length (workingDays c from to) → dayList c from to ≡ workingDays c from to
+  unfolding dayList
+  day-list-counted h = go (workingDays c from to) h
+    where
+      go : (l : List ℕ) → 0 < length l → orAlone from l ≡ l
+      go [] h = absurd (omega arith)
+      go (d ∷ ds) h = refl
+
+  pub day-list-empty : length (workingDays c from to) ≡ 0 → dayList c from to ≡ from ∷ []
+  unfolding dayList
+  day-list-empty h = go (workingDays c from to) h
+    where
+      go : (l : List ℕ) → length l ≡ 0 → orAlone from l ≡ from ∷ []
+      go [] h = refl
+      go (d ∷ ds) h = absurd (omega arith)
 
   -- of one date, or of none, the first date, whether it works or not
   pub day-list-one : to ≤ from → dayList c from to ≡ from ∷ []
@@ -82,3 +113,12 @@ module _ (c : Calendar) (from to : ℕ) where
       go : (l : List ℕ) → Rising l → Rising (orAlone from l)
       go [] r j k m h = absurd (omega arith)
       go (d ∷ ds) r j k m h = r j k m h
+
+  -- within the span, but never empty
+  pub day-list-within : (d : ℕ) → List·Memᴰ d (dayList c from to) → (from ≤ d) × (d ≤ max from to)
+  unfolding dayList
+  day-list-within d m = go (workingDays c from to) (λ e n. working-days e .0 n) m
+    where
+      go : (l : List ℕ) → ((e : ℕ) → List·Memᴰ e l → (from ≤ e) × (e ≤ to) × (isWorking c e ≡ true)) → List·Memᴰ d (orAlone from l) → (from ≤ d) × (d ≤ max from to)
+      go [] h m = ⊎-elim (λ e. (omega arith, omega arith)) (λ n. absurd (List·Memᴰ·not-nil n)) (List·Memᴰ·cases-cons m)
+      go (e ∷ es) h m = let w = h d m in (w .0, omega arith)

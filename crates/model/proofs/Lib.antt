@@ -4,10 +4,16 @@ pub mod Days
 pub mod Pigeonhole
 pub mod Tree
 pub mod RollUp
+pub mod Totals
 pub mod Points
 pub mod Prices
 pub mod Saturating
 pub mod Amounts
+pub mod Figures
 pub mod Costs
+pub mod Planned
+pub mod Curve
+pub mod EarnedValue
+pub mod Demand
 pub mod Example
 pub mod Cases

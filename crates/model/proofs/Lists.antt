@@ -1,9 +1,9 @@
 -- Laws of the lists: what they hold, and that they rise.
 use Prim.Native.Nat.{ℕ, zero, suc, _+_, _≤_, _<_}
-use mathlib.Core.Path.{_≡_, refl, sym, ap, ap₂, _∙_}
+use mathlib.Core.Path.{_≡_, refl, sym, ap, ap₂, _∙_, subst}
 use mathlib.Core.Logic.{_⊎_, inl, inr, ⊎-elim}
 use mathlib.Core.Bool.{Bool, true, false, true≢false, _&&_, _||_, or-true}
-use mathlib.Core.List.{List, [], _∷_, _++_, map, List·Memᴰ, List·Memᴰ·head, List·Memᴰ·tail, List·Memᴰ·not-nil, List·Memᴰ·cases-cons}
+use mathlib.Core.List.{List, [], _∷_, _++_, map, flatMap, List·Memᴰ, List·Memᴰ·head, List·Memᴰ·tail, List·Memᴰ·not-nil, List·Memᴰ·cases-cons, List·Memᴰ·append-cases}
 use native.Mathlib.Omega.{arith}
 use native.Mathlib.Decide.{ℕ-discrete}
 use lib.Dec.{eqb}
@@ -28,7 +28,42 @@ in-span a (suc n) d h k = go (ℕ-discrete d a) (in-span (suc a) n d)
     go (yes e) ih = List·Memᴰ·head e
     go (no e) ih = List·Memᴰ·tail (ih (omega arith) (omega arith))
 
+-- made of each number of a span
+made-from : {A : Type 0} (f : ℕ → A) (d : A) (a n i : ℕ) → i < n → getD (map f (span a n)) i d ≡ f (a + i)
+unfolding span
+made-from f d a zero i h = absurd (omega arith)
+made-from f d a (suc n) zero h = let e : a ≡ a + 0 = omega arith in ap f e
+made-from f d a (suc n) (suc i) h = let e : suc a + i ≡ a + suc i = omega arith in made-from f d (suc a) n i (omega arith) ∙ ap f e
+
+pub made-at : {A : Type 0} (f : ℕ → A) (d : A) (n i : ℕ) → i < n → getD (map f (span 0 n)) i d ≡ f i
+made-at f d n i h = let e : 0 + i ≡ i = omega arith in made-from f d 0 n i h ∙ ap f e
+
+pub any-in : (x : ℕ) (xs : List ℕ) → any (eqb x) xs ≡ true → List·Memᴰ x xs
+unfolding any
+any-in x [] e = absurd (true≢false (sym e))
+any-in x (y ∷ ys) e = go (eqb x y) refl e (any-in x ys)
+  where
+    go : (b : Bool) → eqb x y ≡ b → (b || any (eqb x) ys) ≡ true → (any (eqb x) ys ≡ true → List·Memᴰ x ys) → List·Memᴰ x (y ∷ ys)
+    go true s e ih = List·Memᴰ·head (eqb-true x y s)
+    go false s e ih = List·Memᴰ·tail (ih e)
+
+pub in-any : {A : Type 0} (p : A → Bool) (x : A) (xs : List A) → List·Memᴰ x xs → p x ≡ true → any p xs ≡ true
+unfolding any
+in-any p x [] m t = absurd (List·Memᴰ·not-nil m)
+in-any p x (y ∷ ys) m t =
+    ⊎-elim (λ e. ap (λ (b : Bool). b || any p ys) (ap p (sym e) ∙ t)) (λ r. ap (λ (b : Bool). p y || b) (in-any p x ys r t) ∙ or-true (p y))
+    (List·Memᴰ·cases-cons m)
+
 module _ {A : Type 0} (p : A → Bool) where
+  pub any-some : (xs : List A) → any p xs ≡ true → (x : A) × List·Memᴰ x xs × (p x ≡ true)
+  unfolding any
+  any-some [] e = absurd (true≢false (sym e))
+  any-some (y ∷ ys) e = go (p y) refl e (any-some ys)
+    where
+      go : (b : Bool) → p y ≡ b → (b || any p ys) ≡ true → (any p ys ≡ true → (x : A) × List·Memᴰ x ys × (p x ≡ true)) → (x : A) × List·Memᴰ x (y ∷ ys) × (p x ≡ true)
+      go true t e ih = (y, List·Memᴰ·head refl, t)
+      go false t e ih = let h = ih e in (h .0, List·Memᴰ·tail (h .1), h .2)
+
   pub keep-in : (x : A) (xs : List A) → List·Memᴰ x (keep p xs) → List·Memᴰ x xs × (p x ≡ true)
   unfolding keep
   keep-in x [] m = absurd (List·Memᴰ·not-nil m)
@@ -58,6 +93,18 @@ module _ {A : Type 0} (p : A → Bool) where
   keep-none [] h = refl
   keep-none (y ∷ ys) h = ap (λ (b : Bool). consIf b y (keep p ys)) (h y (List·Memᴰ·head refl)) ∙ keep-none ys (λ x m. h x (List·Memᴰ·tail m))
 
+  pub keep-all : (xs : List A) → ((x : A) → List·Memᴰ x xs → p x ≡ true) → keep p xs ≡ xs
+  unfolding keep
+  keep-all [] h = refl
+  keep-all (y ∷ ys) h = ap (λ (b : Bool). consIf b y (keep p ys)) (h y (List·Memᴰ·head refl)) ∙ ap (λ (l : List A). y ∷ l) (keep-all ys (λ x m. h x (List·Memᴰ·tail m)))
+
+  pub keep-unless : (xs : List A) → any p xs ≡ false → keep p xs ≡ []
+  keep-unless xs e = keep-none xs (λ x m. go x m (p x) refl)
+    where
+      go : (x : A) → List·Memᴰ x xs → (b : Bool) → p x ≡ b → p x ≡ false
+      go x m false t = t
+      go x m true t = absurd (true≢false (sym (in-any p x xs m t) ∙ e))
+
   pub keep-append : (xs ys : List A) → keep p (xs ++ ys) ≡ keep p xs ++ keep p ys
   unfolding keep
   keep-append [] ys = refl
@@ -66,6 +113,11 @@ module _ {A : Type 0} (p : A → Bool) where
       go : (b : Bool) → consIf b x (keep p xs ++ keep p ys) ≡ consIf b x (keep p xs) ++ keep p ys
       go true = refl
       go false = refl
+
+  pub keep-flat : {B : Type 0} (f : B → List A) (xs : List B) → keep p (flatMap f xs) ≡ flatMap (λ x. keep p (f x)) xs
+  unfolding keep flatMap
+  keep-flat f [] = refl
+  keep-flat f (x ∷ xs) = keep-append (f x) (flatMap f xs) ∙ ap (λ (l : List A). keep p (f x) ++ l) (keep-flat f xs)
 
   pub keep-keep : (q : A → Bool) (xs : List A) → keep q (keep p xs) ≡ keep (λ x. p x && q x) xs
   unfolding keep
@@ -76,6 +128,32 @@ module _ {A : Type 0} (p : A → Bool) where
       go true = refl
       go false = refl
 
+  pub keep-same : (q : A → Bool) (xs : List A) → ((x : A) → p x ≡ q x) → keep p xs ≡ keep q xs
+  unfolding keep
+  keep-same q [] h = refl
+  keep-same q (x ∷ xs) h = ap₂ (λ (b : Bool) (l : List A). consIf b x l) (h x) (keep-same q xs h)
+
+  -- a wider test keeps no fewer
+  pub keep-fewer : (q : A → Bool) (xs : List A) → ((x : A) → p x ≡ true → q x ≡ true) → length (keep p xs) ≤ length (keep q xs)
+  unfolding keep
+  keep-fewer q [] h = omega arith
+  keep-fewer q (x ∷ xs) h = go (p x) (q x) (h x) (keep-fewer q xs h)
+    where
+      go : (b c : Bool) → (b ≡ true → c ≡ true) → length (keep p xs) ≤ length (keep q xs) → length (consIf b x (keep p xs)) ≤ length (consIf c x (keep q xs))
+      go true true f ih = omega arith
+      go true false f ih = absurd (true≢false (sym (f refl)))
+      go false true f ih = omega arith
+      go false false f ih = ih
+
+  pub keep-length : (xs : List A) → length (keep p xs) ≤ length xs
+  unfolding keep
+  keep-length [] = omega arith
+  keep-length (x ∷ xs) = go (p x) (keep-length xs)
+    where
+      go : (b : Bool) → length (keep p xs) ≤ length xs → length (consIf b x (keep p xs)) ≤ suc (length xs)
+      go true ih = omega arith
+      go false ih = omega arith
+
   pub keep-map : {B : Type 0} (f : B → A) (xs : List B) → keep p (map f xs) ≡ map f (keep (λ x. p (f x)) xs)
   unfolding keep
   keep-map f [] = refl
@@ -84,6 +162,18 @@ module _ {A : Type 0} (p : A → Bool) where
       go : (b : Bool) → consIf b (f x) (map f (keep (λ y. p (f y)) xs)) ≡ map f (consIf b x (keep (λ y. p (f y)) xs))
       go true = refl
       go false = refl
+
+  -- two tests in either order
+  pub keep-swap : (q : A → Bool) (xs : List A) → keep q (keep p xs) ≡ keep p (keep q xs)
+  unfolding keep
+  keep-swap q [] = refl
+  keep-swap q (x ∷ xs) = go (p x) (q x) refl refl (keep-swap q xs)
+    where
+      go : (b c : Bool) → p x ≡ b → q x ≡ c → keep q (keep p xs) ≡ keep p (keep q xs) → keep q (consIf b x (keep p xs)) ≡ keep p (consIf c x (keep q xs))
+      go true true e f ih = rw (e, f) (ap (λ (l : List A). x ∷ l) ih)
+      go true false e f ih = rw f ih
+      go false true e f ih = rw e ih
+      go false false e f ih = ih
 
   -- what holds of those that pass is all that counts
   pub map-kept : {B : Type 0} (f g : A → B) (xs : List A) → ((x : A) → p x ≡ true → f x ≡ g x) → map f (keep p xs) ≡ map g (keep p xs)
@@ -94,6 +184,15 @@ module _ {A : Type 0} (p : A → Bool) where
       go : (b : Bool) → p x ≡ b → map f (keep p xs) ≡ map g (keep p xs) → map f (consIf b x (keep p xs)) ≡ map g (consIf b x (keep p xs))
       go true e ih = ap₂ _∷_ (h x e) ih
       go false e ih = ih
+
+pub map-same : {A B : Type 0} (f g : A → B) (xs : List A) → ((x : A) → List·Memᴰ x xs → f x ≡ g x) → map f xs ≡ map g xs
+map-same f g [] h = refl
+map-same f g (x ∷ xs) h = ap₂ _∷_ (h x (List·Memᴰ·head refl)) (map-same f g xs (λ y m. h y (List·Memᴰ·tail m)))
+
+pub flat-in : {A B : Type 0} (f : B → List A) (x : A) (ys : List B) → List·Memᴰ x (flatMap f ys) → (y : B) × List·Memᴰ y ys × List·Memᴰ x (f y)
+unfolding flatMap
+flat-in f x [] m = absurd (List·Memᴰ·not-nil m)
+flat-in f x (y ∷ ys) m = ⊎-elim (λ l. (y, List·Memᴰ·head refl, l)) (λ r. let h = flat-in f x ys r in (h .0, List·Memᴰ·tail (h .1), h .2)) (List·Memᴰ·append-cases (f y) m)
 
 pub take-in : {A : Type 0} (x : A) (n : ℕ) (xs : List A) → List·Memᴰ x (take n xs) → List·Memᴰ x xs
 take-in x zero xs m = absurd (List·Memᴰ·not-nil m)
@@ -121,26 +220,13 @@ first-at x (y ∷ ys) m = go (ℕ-discrete y x) (first-at x ys)
         past f zero h = e
         past f (suc j) h = f .before j (omega arith)
 
+pub got-in : {A : Type 0} (xs : List A) (d : A) (k : ℕ) → k < length xs → List·Memᴰ (getD xs k d) xs
+got-in [] d k h = absurd (omega arith)
+got-in (x ∷ xs) d zero h = List·Memᴰ·head refl
+got-in (x ∷ xs) d (suc k) h = List·Memᴰ·tail (got-in xs d k (omega arith))
+
 pub at-in : (x : ℕ) (xs : List ℕ) (k : ℕ) → k < length xs → getD xs k 0 ≡ x → List·Memᴰ x xs
-at-in x [] k h e = absurd (omega arith)
-at-in x (y ∷ ys) zero h e = List·Memᴰ·head (sym e)
-at-in x (y ∷ ys) (suc k) h e = List·Memᴰ·tail (at-in x ys k (omega arith) e)
-
-pub any-in : (x : ℕ) (xs : List ℕ) → any (eqb x) xs ≡ true → List·Memᴰ x xs
-unfolding any
-any-in x [] e = absurd (true≢false (sym e))
-any-in x (y ∷ ys) e = go (eqb x y) refl e (any-in x ys)
-  where
-    go : (b : Bool) → eqb x y ≡ b → (b || any (eqb x) ys) ≡ true → (any (eqb x) ys ≡ true → List·Memᴰ x ys) → List·Memᴰ x (y ∷ ys)
-    go true s e ih = List·Memᴰ·head (eqb-true x y s)
-    go false s e ih = List·Memᴰ·tail (ih e)
-
-pub in-any : {A : Type 0} (p : A → Bool) (x : A) (xs : List A) → List·Memᴰ x xs → p x ≡ true → any p xs ≡ true
-unfolding any
-in-any p x [] m t = absurd (List·Memᴰ·not-nil m)
-in-any p x (y ∷ ys) m t =
-    ⊎-elim (λ e. ap (λ (b : Bool). b || any p ys) (ap p (sym e) ∙ t)) (λ r. ap (λ (b : Bool). p y || b) (in-any p x ys r t) ∙ or-true (p y))
-    (List·Memᴰ·cases-cons m)
+at-in x xs k h e = subst (λ (y : ℕ). List·Memᴰ y xs) e (got-in xs 0 k h)
 
 -- ---- their order
 keep-from : (p : ℕ → Bool) (a n k : ℕ) → k < length (keep p (span a n)) → a ≤ getD (keep p (span a n)) k 0
@@ -168,10 +254,10 @@ keep-rises p a (suc n) j k m l = go (p a) (keep-rises p (suc a) n) j k m l
 
 -- ---- a rising list is known by what it holds
 module _ (x : ℕ) (xs : List ℕ) (r : Rising (x ∷ xs)) where
-  rest-rises : Rising xs
+  pub rest-rises : Rising xs
   rest-rises j k h l = r (suc j) (suc k) (omega arith) (omega arith)
 
-  least : (d : ℕ) → List·Memᴰ d xs → x < d
+  pub least : (d : ℕ) → List·Memᴰ d xs → x < d
   least d m = let f = first-at d xs m in omega (arith, f .here, r 0 (suc (f .at)) (omega arith) (omega (arith, f .inside)))
 
 pub rising-same : (xs ys : List ℕ) → Rising xs → Rising ys → ((d : ℕ) → List·Memᴰ d xs → List·Memᴰ d ys) → ((d : ℕ) → List·Memᴰ d ys → List·Memᴰ d xs) → xs ≡ ys

@@ -12,13 +12,10 @@ use Rattle.holidays.specs.Holiday.{any}
 use Rattle.format.specs.Book.{Book}
 use Rattle.model.specs.Lists.{span, keep}
 use Rattle.model.specs.Days.{datesBetween}
-use Rattle.model.specs.Amounts.{Dated, isCharged, pointOn, pointsBetween, lastDay, points}
+use Rattle.model.specs.Amounts.{Dated, isBetween, isCharged, pointOn, pointsBetween, lastDay, points}
 use Rattle.model.specs.Costs.{budgetByDay, spending, spendingBetween}
 use Rattle.model.proofs.Lists.{keep-map, keep-keep, keep-rises, rising-same}
 use Rattle.model.proofs.Days.{kept-between, between-kept}
-
-abbrev pub isBetween : ℕ → ℕ → Dated → Bool
-isBetween from to x = leb from (x .day) && leb (x .day) to
 
 -- nothing falls after the last day
 not-after : (xs : List Dated) (d : ℕ) → isCharged xs d ≡ true → d ≤ lastDay xs

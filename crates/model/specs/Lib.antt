@@ -5,3 +5,6 @@ pub mod Days
 pub mod Amounts
 pub mod Tree
 pub mod Costs
+pub mod Planned
+pub mod Earned
+pub mod Demand

@@ -16,3 +16,12 @@ pub struct ActualByKind {
     pub laborUnits: i64,
     pub nonlaborUnits: i64,
 }
+
+// An activity's, or the project's, earned value, in hundredths of the currency.
+pub struct Earned {
+    pub budget: i64,
+    pub planned: i64,
+    pub earned: i64,
+    pub actual: i64,
+    pub remaining: i64,
+}

@@ -1,6 +1,11 @@
 // The C interface: include/surukeva.h declares it.
+ghost use mathlib.Core.List.{[]};
 ghost use mathlib.Core.Path.{_≡_};
+ghost use lib.ListN.{length};
 ghost use Rattle.format.specs.Verdict.{verdict, answerOf, answerNumber, answerPlace};
+ghost use Rattle.engine.specs.Rows.{costsRows, projectCostRows, actualByKindRows};
+ghost use Rattle.engine.specs.Calls.{reply, left, replyNumber, replyPlace};
+use engine::Reply;
 use format::Answer;
 
 // Whether the book is accepted: its number, and in `at` its place.
@@ -19,4 +24,53 @@ pub extern "C" fn surukeva_verdict(book: &[u8], at: &mut u64) -> u64
             number
         }
     }
+}
+
+// The number of an answer, and in `at` its count of rows or its place.
+fn give(answer: Reply, at: &mut u64) -> u64
+    ensures { λ r. ⌜ (r ≡ replyNumber answer) × (now (at .exit) ≡ replyPlace answer) ⌝ }
+{
+    match answer {
+        Reply::Accepted(rows) => {
+            *at = rows;
+            0
+        }
+        Reply::Refused(number, place) => {
+            *at = place as u64;
+            number
+        }
+    }
+}
+
+// Each activity's costs.
+#[no_mangle]
+pub extern "C" fn surukeva_costs(book: &[u8], out: &mut [u64], at: &mut u64) -> u64
+    ensures { λ r. ⌜ r ≡ replyNumber (reply [] costsRows (now (book .entry)) (length (now (out .entry)))) ⌝ }
+    ensures place { λ r. ⌜ now (at .exit) ≡ replyPlace (reply [] costsRows (now (book .entry)) (length (now (out .entry)))) ⌝ }
+    ensures lent { λ r. ⌜ now (out .exit) ≡ left [] costsRows (now (book .entry)) (now (out .entry)) ⌝ }
+{
+    let answer = engine::costs(book, out);
+    give(answer, at)
+}
+
+// The project's costs.
+#[no_mangle]
+pub extern "C" fn surukeva_project_cost(book: &[u8], out: &mut [u64], at: &mut u64) -> u64
+    ensures { λ r. ⌜ r ≡ replyNumber (reply [] projectCostRows (now (book .entry)) (length (now (out .entry)))) ⌝ }
+    ensures place { λ r. ⌜ now (at .exit) ≡ replyPlace (reply [] projectCostRows (now (book .entry)) (length (now (out .entry)))) ⌝ }
+    ensures lent { λ r. ⌜ now (out .exit) ≡ left [] projectCostRows (now (book .entry)) (now (out .entry)) ⌝ }
+{
+    let answer = engine::project_cost(book, out);
+    give(answer, at)
+}
+
+// Each activity's own actual cost by kind.
+#[no_mangle]
+pub extern "C" fn surukeva_actual_by_kind(book: &[u8], out: &mut [u64], at: &mut u64) -> u64
+    ensures { λ r. ⌜ r ≡ replyNumber (reply [] actualByKindRows (now (book .entry)) (length (now (out .entry)))) ⌝ }
+    ensures place { λ r. ⌜ now (at .exit) ≡ replyPlace (reply [] actualByKindRows (now (book .entry)) (length (now (out .entry)))) ⌝ }
+    ensures lent { λ r. ⌜ now (out .exit) ≡ left [] actualByKindRows (now (book .entry)) (now (out .entry)) ⌝ }
+{
+    let answer = engine::actual_by_kind(book, out);
+    give(answer, at)
 }

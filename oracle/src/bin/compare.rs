@@ -1,23 +1,30 @@
 //! Holds the archive against the Rust: leaf functions over random arguments, calls over random
 //! books, whole and damaged, with lent slices that are too short, fit, or are longer.
 //!
-//!     compare [SEED [ARGUMENTS [BOOKS]]]
+//!     compare [SEED [ARGUMENTS [BOOKS [TRAPS]]]]
+//!
+//! TRAPS is a file such as books/traps.txt: every call on every book of it comes first.
 
 use std::process::ExitCode;
 
-use oracle::book::Book;
+use oracle::book::{Book, decode};
 use oracle::calls::Answer;
 use oracle::damage::{Damage, damaged, mutated};
 use oracle::encode::encode;
 use oracle::generate;
 use oracle::library::{BookCall, book_calls, leaves};
 use oracle::random::Random;
+use oracle::traps::bytes;
+
+/// How often each call is asked of a trap book.
+const TRAP_QUESTIONS: usize = 12;
 
 fn main() -> ExitCode {
     let numbers: Vec<u64> = std::env::args().skip(1).filter_map(|word| word.parse().ok()).collect();
     let number = |index: usize, usual: u64| numbers.get(index).copied().unwrap_or(usual);
     let (seed, arguments, books) = (number(0, 1), number(1, 200_000), number(2, 500));
-    let differences = compare_leaves(seed, arguments as usize) + compare_books(seed, books);
+    let traps = std::env::args().nth(4).map_or(0, |file| compare_traps(&file, seed));
+    let differences = traps + compare_leaves(seed, arguments as usize) + compare_books(seed, books);
     println!("{differences} differences");
     if differences == 0 { ExitCode::SUCCESS } else { ExitCode::FAILURE }
 }
@@ -32,6 +39,31 @@ fn compare_leaves(seed: u64, count: usize) -> usize {
                 differences += 1;
             }
         }
+    }
+    differences
+}
+
+/// Every call on every trap book, asked near its days and beyond them.
+fn compare_traps(file: &str, seed: u64) -> usize {
+    let text = std::fs::read_to_string(file).expect("the trap books can be read");
+    let stored = text.lines().filter_map(|line| line.strip_prefix("book ")?.split_once(' '));
+    let books: Vec<(&str, Vec<u8>)> = stored.map(|(name, digits)| (name, bytes(digits))).collect();
+    let mut differences = 0;
+    for call in book_calls() {
+        let mut random = Random::new(seed);
+        for (name, bytes) in &books {
+            let book = decode(bytes).unwrap_or_default();
+            let agrees = (0..TRAP_QUESTIONS).all(|_| {
+                let asked = generate::asked(call.rust, &book, &mut random);
+                let (rust, archive) = answers(&call, bytes, &asked, &mut random);
+                rust == archive
+            });
+            if !agrees {
+                println!("{} DIFFERS on trap book {name}", call.rust.name);
+                differences += 1;
+            }
+        }
+        println!("{}: {} trap books compared", call.rust.name, books.len());
     }
     differences
 }
@@ -87,12 +119,17 @@ type Side = (Answer, Vec<u64>);
 fn both_sides(call: &BookCall, seed: u64) -> (Side, Side) {
     let mut random = Random::new(seed);
     let (bytes, asked) = question(call, &mut random);
-    let rows = call.rust.rows(&bytes, &asked);
-    let length = lent_length(rows.as_ref().map_or(8, Vec::len), &mut random);
+    answers(call, &bytes, &asked, &mut random)
+}
+
+/// The same for a book and what is asked, with a lent slice of a random length and random numbers.
+fn answers(call: &BookCall, bytes: &[u8], asked: &[u64], random: &mut Random) -> (Side, Side) {
+    let rows = call.rust.rows(bytes, asked);
+    let length = lent_length(rows.as_ref().map_or(8, Vec::len), random);
     let lent: Vec<u64> = (0..length).map(|_| random.number()).collect();
     let (mut expected, mut found) = (lent.clone(), lent);
     let rust = call.rust.lend(&rows, &mut expected);
-    let archive = call.answer(&bytes, &asked, &mut found);
+    let archive = call.answer(bytes, asked, &mut found);
     ((rust, expected), (archive, found))
 }
 

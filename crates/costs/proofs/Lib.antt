@@ -1,0 +1,6 @@
+pub mod Reading
+pub mod Columns
+pub mod Charged
+pub mod Turns
+pub mod Figured
+pub mod Planned

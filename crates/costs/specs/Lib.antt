@@ -1,0 +1,3 @@
+pub mod Columns
+pub mod Charges
+pub mod Arguments

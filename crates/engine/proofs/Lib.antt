@@ -1,0 +1,4 @@
+pub mod Figures
+pub mod Made
+pub mod Demand
+pub mod Replies

@@ -1,0 +1,57 @@
+-- The table of answers, line by line.
+use Prim.Native.Nat.{ℕ, _≤_, _<_}
+use mathlib.Core.Path.{_≡_, refl, ap, ap₂, _∙_}
+use mathlib.Core.Bool.{Bool, true, false, cond}
+use mathlib.Core.List.{List, [], _++_}
+use lib.Dec.{leb}
+use lib.ListN.{length, drop}
+use borrow.Author.Tests.{le-leb, lt-leb}
+use Rattle.format.specs.declared.Pos.{Pos}
+use Rattle.format.specs.declared.Pos.the-variants as pos
+use Rattle.format.specs.Book.{Book}
+use Rattle.format.specs.Verdict.{verdict, content}
+use Rattle.rows.specs.Rows.{numbers}
+use Rattle.engine.specs.declared.Reply.{Reply}
+use Rattle.engine.specs.declared.Reply.the-variants.{Accepted, Refused}
+use Rattle.engine.specs.Rows.{Rows}
+use Rattle.engine.specs.Calls.{areDates, replyOn, replyAt, leaves, Answers, reply, left}
+
+-- ---- on an accepted book
+
+pub no-dates : areDates [] ≡ true
+unfolding areDates
+no-dates = refl
+
+module _ (dates : List ℕ) (rows : Rows) (out : List ℕ) where
+  pub misdated : areDates dates ≡ false → Answers dates rows out (Refused 9 0) out
+  unfolding replyOn leaves
+  misdated d = record { answer = rw d refl; lent = refl }
+
+  module _ (d : areDates dates ≡ true) where
+    pub too-short : length out < length (numbers rows) → Answers dates rows out (Refused 10 0) out
+    unfolding replyOn leaves
+    too-short h = record { answer = rw (d, lt-leb (length (numbers rows)) (length out) h) refl; lent = refl }
+
+    -- the rows in front, and then what was there
+    pub filled :
+        (n : ℕ) → n ≡ length rows → (m : ℕ) → m ≡ length (numbers rows) → m ≤ length out → (front : List ℕ) → front ≡ numbers rows →
+        Answers dates rows out (Accepted n) (front ++ drop m out)
+    unfolding replyOn leaves
+    filled n e m is h front f =
+        record {
+          answer = rw (d, ← is, le-leb m (length out) h, e) refl;
+          lent = ap₂ (λ (l : List ℕ) (k : ℕ). l ++ drop k out) f is;
+        }
+
+-- ---- on any bytes
+
+module _ (dates : List ℕ) (rows : Book → Rows) (s out : List ℕ) where
+  pub book-refused : (e p : ℕ) → verdict s ≡ pos.Refused e p → (Refused e p ≡ reply dates rows s (length out)) × (out ≡ left dates rows s out)
+  unfolding reply left leaves
+  book-refused e p h = rw h (refl, refl)
+
+  pub book-accepted :
+      (j : ℕ) → verdict s ≡ pos.At j → (r : Reply) (after : List ℕ) → Answers dates (rows (content s)) out r after →
+      (r ≡ reply dates rows s (length out)) × (after ≡ left dates rows s out)
+  unfolding reply left
+  book-accepted j h r after a = rw h (a .answer, a .lent ∙ ap (λ (x : Reply). leaves x (rows (content s)) out) (a .answer))

@@ -1,0 +1,4 @@
+pub mod Portions
+pub mod Replacing
+pub mod Settling
+pub mod Figures

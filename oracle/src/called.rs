@@ -1,0 +1,83 @@
+//! Calls over the trap books and over short made ones, with what they leave in lent memory, for the replay.
+
+use crate::book::{FIRST_DAY, LAST_DAY, decode};
+use crate::calls::{Asked, CALLS, Call};
+use crate::encode::encode;
+use crate::generate;
+use crate::traps;
+
+/// The calls that the replay knows.
+const REPLAYED: [&str; 4] = ["costs", "project_cost", "actual_by_kind", "spending"];
+/// A longer lent slice is left out.
+const MOST_LENT: usize = 600;
+/// How many books are made beside the trap books, and how long they may be.
+const MADE: usize = 12;
+const MOST_BYTES: usize = 700;
+
+/// Number k of a lent slice before the call.
+fn lent_number(k: usize) -> u64 {
+    1_000_003 * (k as u64 + 1)
+}
+
+/// A line: `call NAME BOOK ASKED.. LENT = NUMBER AT NUMBER..`, all numbers of the lent slice after the call.
+fn line(call: &Call, bytes: &[u8], asked: &[u64], lent: usize) -> String {
+    let mut out: Vec<u64> = (0..lent).map(lent_number).collect();
+    let (number, at) = call.answer(bytes, asked, &mut out);
+    let digits: String = bytes.iter().map(|byte| format!("{byte:02x}")).collect();
+    let words = |numbers: &[u64]| numbers.iter().map(|n| format!(" {n}")).collect::<String>();
+    format!("call {} {digits}{} {lent} = {number} {at}{}\n", call.name, words(asked), words(&out))
+}
+
+/// The early start of a book's first activity.
+fn first_start(bytes: &[u8]) -> u64 {
+    let first = decode(bytes).ok().and_then(|book| book.activities.first().map(|a| a.early_start));
+    first.unwrap_or(20_000)
+}
+
+/// What a call is asked: all days, a part of them, and days that are refused.
+fn questions(call: &Call, bytes: &[u8]) -> Vec<Vec<u64>> {
+    match call.asked {
+        [Asked::Date, Asked::Date] => {
+            let day = first_start(bytes);
+            let ends = [(FIRST_DAY - 1, LAST_DAY), (FIRST_DAY, LAST_DAY + 1)];
+            let parts = [(day, day), (day + 1, day + 3), (day + 1, day)];
+            [(FIRST_DAY, LAST_DAY)]
+                .iter()
+                .chain(&parts)
+                .chain(&ends)
+                .map(|(from, to)| vec![*from, *to])
+                .collect()
+        }
+        _ => vec![Vec::new()],
+    }
+}
+
+/// The lines of a call on one book: a slice that fits, a longer one, one that is too short by one, and an empty one.
+fn lines(call: &Call, bytes: &[u8], asked: &[u64]) -> String {
+    let needed = call.rows(bytes, asked).map_or(0, |rows| rows.len());
+    let mut lengths = vec![needed, needed + 3, needed.saturating_sub(1), 0];
+    lengths.retain(|length| *length <= MOST_LENT);
+    lengths.sort_unstable();
+    lengths.dedup();
+    lengths.iter().map(|length| line(call, bytes, asked, *length)).collect()
+}
+
+/// The trap books of a file, then short ones of each quick kind.
+fn books(file: &str) -> Vec<Vec<u8>> {
+    let stored = file.lines().filter_map(|line| line.strip_prefix("book ")?.split_once(' '));
+    let kinds = ["small", "ends", "tree", "calendar", "money"];
+    let made =
+        (1..=60).flat_map(|seed| kinds.iter().filter_map(move |kind| generate::book(kind, seed)));
+    let short = made.map(|book| encode(&book)).filter(|bytes| bytes.len() <= MOST_BYTES);
+    stored.map(|(_, digits)| traps::bytes(digits)).chain(short.take(MADE)).collect()
+}
+
+/// The lines of every replayed call on those books.
+pub fn text(file: &str) -> String {
+    let books = books(file);
+    let calls = CALLS.iter().filter(|call| REPLAYED.contains(&call.name));
+    let on_book = |call, bytes| -> String {
+        questions(call, bytes).iter().map(|asked| lines(call, bytes, asked)).collect()
+    };
+    calls.flat_map(|call| books.iter().map(move |bytes| on_book(call, bytes))).collect()
+}
