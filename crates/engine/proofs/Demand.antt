@@ -33,7 +33,8 @@ use Rattle.model.proofs.EarnedValue.{earned-planned-fits, earned-budget-fits, p
 use Rattle.model.proofs.Curve.{curve-fits}
 use Rattle.model.proofs.Demand.{Reads, planned-value-read}
 use Rattle.engine.specs.declared.Reply.the-variants.{Accepted, Refused}
-use Rattle.engine.specs.Rows.{Rows, earnedRow, pointRow, earnedValueRows, projectEarnedRows, plannedCurveRows}
+use Rattle.spending.specs.Rows.{pointRow}
+use Rattle.engine.specs.Rows.{Rows, earnedRow, earnedValueRows, projectEarnedRows, plannedCurveRows}
 use Rattle.engine.specs.Calls.{areDates, replyOn, replyAt, leaves, reply, left, replyPlace}
 use Rattle.engine.specs.Demand.{numberAt, pointIn, LentAt, IsAccepted, earnedReply, projectReply, curveReply, AllAccepted, lentReading, lentCurve}
 use Rattle.engine.proofs.Made.{count-is}
@@ -124,7 +125,6 @@ reads s ok at a b = record {
 points-back :
     (points : List Dated) (rest : List ℕ) → ((x : Dated) → List·Memᴰ x points → SFits w64 (x .amount)) →
     map (pointIn (numbers (map pointRow points) ++ rest)) (span 0 (length points)) ≡ points
-unfolding pointRow
 points-back points rest fits = ext-getD none (map (pointIn out) (span 0 (length points))) points (made-length (pointIn out) (length points)) at
   where
     none : Dated

@@ -1,8 +1,8 @@
 -- The table of answers, line by line.
 use Prim.Native.Nat.{ℕ, _≤_, _<_}
 use mathlib.Core.Path.{_≡_, refl, ap, ap₂, _∙_}
-use mathlib.Core.Bool.{Bool, true, false, cond}
-use mathlib.Core.List.{List, [], _++_}
+use mathlib.Core.Bool.{Bool, true, false, not, cond}
+use mathlib.Core.List.{List, [], _∷_, _++_}
 use lib.Dec.{leb}
 use lib.ListN.{length, drop}
 use borrow.Author.Tests.{le-leb, lt-leb}
@@ -14,13 +14,30 @@ use Rattle.rows.specs.Rows.{numbers}
 use Rattle.engine.specs.declared.Reply.{Reply}
 use Rattle.engine.specs.declared.Reply.the-variants.{Accepted, Refused}
 use Rattle.engine.specs.Rows.{Rows}
-use Rattle.engine.specs.Calls.{areDates, replyOn, replyAt, leaves, Answers, reply, left}
+use Rattle.engine.specs.Calls.{isDate, areDates, replyOn, replyAt, leaves, Answers, reply, left}
 
 -- ---- on an accepted book
 
 pub no-dates : areDates [] ≡ true
 unfolding areDates
 no-dates = refl
+
+-- as code tests the opposite
+pub opposite : (b c : Bool) → not b ≡ c → b ≡ not c
+opposite true c e = ap not e
+opposite false c e = ap not e
+
+pub two-dates : (from to : ℕ) → isDate from ≡ true → isDate to ≡ true → areDates (from ∷ to ∷ []) ≡ true
+unfolding areDates
+two-dates from to a b = rw (a, b) refl
+
+pub first-misdated : (from to : ℕ) → isDate from ≡ false → areDates (from ∷ to ∷ []) ≡ false
+unfolding areDates
+first-misdated from to a = rw a refl
+
+pub second-misdated : (from to : ℕ) → isDate from ≡ true → isDate to ≡ false → areDates (from ∷ to ∷ []) ≡ false
+unfolding areDates
+second-misdated from to a b = rw (a, b) refl
 
 module _ (dates : List ℕ) (rows : Rows) (out : List ℕ) where
   pub misdated : areDates dates ≡ false → Answers dates rows out (Refused 9 0) out

@@ -9,10 +9,10 @@ use Rattle.model.specs.declared.Way.{Way}
 use Rattle.model.specs.declared.Way.the-variants.{Planned, Actual, Remaining}
 use Rattle.model.specs.declared.ActualByKind.{ActualByKind}
 use Rattle.model.specs.declared.Earned.{Earned}
-use Rattle.model.specs.Amounts.{Dated}
 use Rattle.model.specs.Tree.{parents, indices}
 use Rattle.model.specs.Costs.{costs, projectCost, actualByKind, spendingBetween}
 use Rattle.model.specs.Planned.{plannedCurveBetween}
+use Rattle.spending.specs.Rows.{pointRow}
 use Rattle.model.specs.Earned.{earnedValue, projectEarned, spentIn}
 
 abbrev pub Rows : Type 0
@@ -46,10 +46,6 @@ projectCostRows book = costRow (projectCost book) ∷ []
 -- a row for each activity
 unfoldable pub actualByKindRows : Book → Rows
 actualByKindRows book = map (λ (i : ℕ). kindRow (actualByKind book i)) (indices (parents book))
-
--- the day and the amount
-unfoldable pub pointRow : Dated → List ℕ
-pointRow x = x .day ∷ bits (x .amount) ∷ []
 
 -- a row for each date that something falls on, between two dates
 unfoldable pub spendingRows : ℕ → ℕ → Book → Rows

@@ -1,9 +1,9 @@
 // The C interface: include/surukeva.h declares it.
-ghost use mathlib.Core.List.{[]};
+ghost use mathlib.Core.List.{[], _∷_};
 ghost use mathlib.Core.Path.{_≡_};
 ghost use lib.ListN.{length};
 ghost use Rattle.format.specs.Verdict.{verdict, answerOf, answerNumber, answerPlace};
-ghost use Rattle.engine.specs.Rows.{costsRows, projectCostRows, actualByKindRows};
+ghost use Rattle.engine.specs.Rows.{costsRows, projectCostRows, actualByKindRows, spendingRows};
 ghost use Rattle.engine.specs.Calls.{reply, left, replyNumber, replyPlace};
 use engine::Reply;
 use format::Answer;
@@ -72,5 +72,16 @@ pub extern "C" fn surukeva_actual_by_kind(book: &[u8], out: &mut [u64], at: &mut
     ensures lent { λ r. ⌜ now (out .exit) ≡ left [] actualByKindRows (now (book .entry)) (now (out .entry)) ⌝ }
 {
     let answer = engine::actual_by_kind(book, out);
+    give(answer, at)
+}
+
+// The spending between two dates.
+#[no_mangle]
+pub extern "C" fn surukeva_spending(book: &[u8], from: u64, to: u64, out: &mut [u64], at: &mut u64) -> u64
+    ensures { λ r. ⌜ r ≡ replyNumber (reply (from ∷ to ∷ []) (spendingRows from to) (now (book .entry)) (length (now (out .entry)))) ⌝ }
+    ensures place { λ r. ⌜ now (at .exit) ≡ replyPlace (reply (from ∷ to ∷ []) (spendingRows from to) (now (book .entry)) (length (now (out .entry)))) ⌝ }
+    ensures lent { λ r. ⌜ now (out .exit) ≡ left (from ∷ to ∷ []) (spendingRows from to) (now (book .entry)) (now (out .entry)) ⌝ }
+{
+    let answer = engine::spending(book, from, to, out);
     give(answer, at)
 }

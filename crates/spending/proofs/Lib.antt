@@ -1,0 +1,11 @@
+pub mod Laying
+pub mod Dealing
+pub mod Dates
+pub mod Charging
+pub mod Setting
+pub mod Budgets
+pub mod Writing
+pub mod Assigning
+pub mod Within
+pub mod Spanning
+pub mod Pointing

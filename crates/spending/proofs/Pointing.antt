@@ -1,0 +1,90 @@
+-- The points of what is laid onto empty tables, and the points between two dates where nothing falls outside a stretch.
+use Prim.Native.Nat.{ℕ, zero, suc, _+_, _-_, _*_, _≤_, _<_, min, max}
+use mathlib.Core.Path.{_≡_, refl, ap, ap₂, _∙_}
+use mathlib.Core.Bool.{Bool, true, false, cond}
+use mathlib.Core.List.{List, _∷_, map}
+use native.Mathlib.Nat.{mul-le-mul-right}
+use native.Mathlib.Omega.{arith}
+use lib.Dec.{eqb}
+use lib.IntN.{ℤ, pos}
+use lib.ListN.{length, getD, replicate, length-replicate, getD-replicate}
+use mir.Syntax.{w64}
+use Rattle.integer.specs.Folds.{saturated}
+use Rattle.model.specs.Lists.{span, consIf, keep}
+use Rattle.model.specs.Days.{datesBetween}
+use Rattle.model.specs.Amounts.{Dated, on, amounts, saturatedSum, isDated, isCharged, pointOn, pointsBetween}
+use Rattle.model.proofs.Lists.{keep-rises, rising-same}
+use Rattle.model.proofs.Days.{kept-between, between-kept}
+use Rattle.calendar.specs.Tables.{works}
+use Rattle.spending.specs.Laid.{Laid}
+use Rattle.spending.specs.Listed.{Covers}
+use Rattle.spending.specs.Rows.{sumOn, markedSums}
+use Rattle.spending.proofs.Laying.{sum-of, mark-of}
+use Rattle.spending.proofs.Spanning.{keep-alike}
+
+-- of the dates between two, where two functions agree
+map-alike : {B : Type 0} (f g : ℕ → B) (p : ℕ → Bool) (first last : ℕ) → ((d : ℕ) → first ≤ d → d ≤ last → f d ≡ g d)
+    → map f (keep p (datesBetween first last)) ≡ map g (keep p (datesBetween first last))
+unfolding keep span datesBetween
+map-alike {B} f g p first last h = go first (last + 1 - first) (λ d a b. h d a (omega arith))
+  where
+    go : (a n : ℕ) → ((d : ℕ) → a ≤ d → d < a + n → f d ≡ g d) → map f (keep p (span a n)) ≡ map g (keep p (span a n))
+    go a zero h = refl
+    go a (suc n) h = one (p a) (go (suc a) n (λ d k l. h d (omega arith) (omega arith)))
+      where
+        one : (b : Bool) → map f (keep p (span (suc a) n)) ≡ map g (keep p (span (suc a) n)) → map f (consIf b a (keep p (span (suc a) n))) ≡ map g (consIf b a (keep p (span (suc a) n)))
+        one true rest = ap₂ _∷_ (h a (omega arith) (omega arith)) rest
+        one false rest = rest
+
+-- tables of n and of m dates from lo on, empty before
+module _ (lo hi n m : ℕ) (xs : List Dated) {sums : List ℤ} {marks : List ℕ} (l : Laid lo xs (replicate n (pos 0)) (replicate m 0) sums marks) (room : hi < lo + n) (enough : hi < lo + m) where
+  mark-is : (d : ℕ) → lo ≤ d → d ≤ hi → works lo marks d ≡ isCharged xs d
+  mark-is d h k =
+      ap (λ (t : List ℕ). eqb (getD t (d - lo) 0) 1) (l .marked)
+      ∙ ap (λ (v : ℕ). eqb v 1) (mark-of lo d h (replicate m 0) xs (omega (arith, length-replicate {A = ℕ} m 0)) ∙ ap (cond (isCharged xs d) 1) (getD-replicate m (d - lo) 0 0 (omega arith)))
+      ∙ one (isCharged xs d)
+    where
+      one : (b : Bool) → eqb (cond b 1 0) 1 ≡ b
+      one true = refl
+      one false = refl
+
+  sum-is : (d : ℕ) → lo ≤ d → d ≤ hi → sumOn lo sums d ≡ pointOn xs d
+  unfolding pointOn saturatedSum
+  sum-is d h k =
+      ap (on d)
+      (ap (λ (t : List ℤ). getD t (d - lo) (pos 0)) (l .added)
+      ∙ sum-of lo d h (replicate n (pos 0)) xs (omega (arith, length-replicate n (pos 0)))
+      ∙ ap (λ (z : ℤ). saturated w64 z (amounts (keep (isDated d) xs))) (getD-replicate n (d - lo) (pos 0) (pos 0) (omega arith)))
+
+  pub points-laid : markedSums lo hi sums marks ≡ pointsBetween xs lo hi
+  unfolding markedSums pointsBetween
+  points-laid =
+      ap (map (sumOn lo sums)) (keep-alike (works lo marks) (isCharged xs) lo hi mark-is)
+      ∙ map-alike (sumOn lo sums) (pointOn xs) (isCharged xs) lo hi sum-is
+
+-- where nothing falls before a date or after another
+pub points-narrow : (xs : List Dated) (from to base end : ℕ) → ((d : ℕ) → isCharged xs d ≡ true → (base ≤ d) × (d ≤ end)) → pointsBetween xs (max from base) (min to end) ≡ pointsBetween xs from to
+unfolding pointsBetween datesBetween
+points-narrow xs from to base end h =
+    let lo = max from base in
+    let hi = min to end in
+    let p : ℕ → Bool = isCharged xs in
+    ap (map (pointOn xs))
+    (rising-same (keep p (datesBetween lo hi)) (keep p (datesBetween from to)) (keep-rises p lo (hi + 1 - lo)) (keep-rises p from (to + 1 - from))
+    (λ d m. let k = kept-between p lo hi d m in between-kept p from to d (omega (arith, k .0)) (omega (arith, k .1)) (k .2))
+    (λ d m. let k = kept-between p from to d m in let w = h d (k .2) in between-kept p lo hi d (omega (arith, k .0, w .0)) (omega (arith, k .1, w .1)) (k .2)))
+
+-- ---- tables of n dates
+
+pub has-room : {k n m : ℕ} → k ≡ n → m ≤ n → m ≤ k
+has-room e h = omega arith
+
+pub reaches : {k n : ℕ} (lo : ℕ) {hi : ℕ} → k ≡ n → hi < lo + n → hi < lo + k
+reaches lo e h = omega arith
+
+pub table-covers : {marks : List ℕ} {n lo hi : ℕ} → length marks ≡ n → hi < lo + n → hi ≤ 47481 → Covers lo marks lo hi
+table-covers {lo} e h l = record { start = omega arith; reach = reaches lo e h; latest = l }
+
+-- 16 calendars of all dates of a book
+pub full-room : (calendars width : ℕ) → calendars ≤ 16 → width ≤ 36525 → calendars * width ≤ 584400
+full-room calendars width h l = omega (arith, mul-le-mul-right width h)

@@ -1,0 +1,6 @@
+pub mod Laid
+pub mod Dealt
+pub mod Listed
+pub mod Charges
+pub mod Rows
+pub mod Planned

@@ -1,0 +1,28 @@
+-- The points as rows of numbers, and what a call leaves in the numbers that are lent to it.
+use Prim.Native.Nat.{ℕ, _-_}
+use mathlib.Core.Bool.{cond}
+use mathlib.Core.List.{List, [], _∷_, _++_, map, flatMap}
+use lib.Dec.{leb}
+use lib.IntN.{ℤ, pos}
+use lib.ListN.{length, getD, drop}
+use Rattle.money.specs.Words.{bits}
+use Rattle.model.specs.Amounts.{Dated, on}
+use Rattle.spending.specs.Listed.{workedBetween}
+
+-- the day, then the amount in two's complement of 64 bits
+abbrev pub pointRow : Dated → List ℕ
+pointRow x = x .day ∷ bits (x .amount) ∷ []
+
+unfoldable pub pointRows : List Dated → List ℕ
+pointRows xs = flatMap pointRow xs
+
+-- the rows before what is left of the numbers, where they fit; else the numbers
+unfoldable pub written : List ℕ → List ℕ → List ℕ
+written rows out = cond (leb (length rows) (length out)) (rows ++ drop (length rows) out) out
+
+-- the dates between two that are marked, each with its sum, by tables that begin at the first
+abbrev pub sumOn : ℕ → List ℤ → ℕ → Dated
+sumOn lo sums date = on date (getD sums (date - lo) (pos 0))
+
+unfoldable pub markedSums : ℕ → ℕ → List ℤ → List ℕ → List Dated
+markedSums lo hi sums marks = map (sumOn lo sums) (workedBetween lo marks lo hi)
