@@ -17,8 +17,31 @@ static uint64_t at;
 
 static void *nothing(void *unused) { return unused; }
 
+static uint64_t out[73050];
+static const size_t lent = sizeof out / sizeof *out;
+
 static void *verdict(void *unused) {
     surukeva_verdict(book, length, &at);
+    return unused;
+}
+
+static void *costs(void *unused) {
+    surukeva_costs(book, length, out, lent, &at);
+    return unused;
+}
+
+static void *project_cost(void *unused) {
+    surukeva_project_cost(book, length, out, lent, &at);
+    return unused;
+}
+
+static void *actual_by_kind(void *unused) {
+    surukeva_actual_by_kind(book, length, out, lent, &at);
+    return unused;
+}
+
+static void *spending(void *unused) {
+    surukeva_spending(book, length, 10957, 47481, out, lent, &at);
     return unused;
 }
 
@@ -38,8 +61,16 @@ static size_t used(void *(*call)(void *)) {
     return STACK - left;
 }
 
+static void report(const char *name, void *(*call)(void *)) {
+    printf("%s: %zu bytes of stack\n", name, used(call) - used(nothing));
+}
+
 int main(void) {
     length = fread(book, 1, LONGEST, stdin);
-    printf("verdict: %zu bytes of stack\n", used(verdict) - used(nothing));
+    report("verdict", verdict);
+    report("costs", costs);
+    report("project_cost", project_cost);
+    report("actual_by_kind", actual_by_kind);
+    report("spending", spending);
     return 0;
 }
