@@ -107,7 +107,7 @@ pub days-none : (c : Calendar) (first last : ℕ) → first ≡ 0 → daysIn c f
 unfolding daysIn
 days-none c first last e = rw e
 
-date-days : (c : Calendar) (first last : ℕ) → IsDate first → dayList c first last ≡ daysIn c first last
+pub date-days : (c : Calendar) (first last : ℕ) → IsDate first → dayList c first last ≡ daysIn c first last
 date-days c first last d = sym (days-in c first last (omega (arith, d .first)))
 
 module _ (book : Book) (a : Activity) where

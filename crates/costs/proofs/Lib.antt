@@ -2,5 +2,6 @@ pub mod Reading
 pub mod Columns
 pub mod Charged
 pub mod Turns
+pub mod Nothing
 pub mod Figured
 pub mod Planned

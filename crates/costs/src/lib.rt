@@ -8,6 +8,7 @@ pub mod calendars;
 pub mod charges;
 pub mod expenses;
 pub mod figures;
+pub mod marks;
 pub mod stretched;
 pub mod ways;
 

@@ -19,7 +19,15 @@ ghost use Rattle.engine.specs.Rows.{actualByKindRows, columnOf};
 ghost use Rattle.engine.specs.Calls.{Answers};
 
 // The cost of one kind of resource, as number `at` of each row.
-fn put_cost(book: &[u8], date: OptionalNumber, plan: Plan, kind: ResourceKind, at: usize, column: &mut [i64], out: &mut [u64])
+fn put_cost(
+    book: &[u8],
+    date: OptionalNumber,
+    plan: Plan,
+    kind: ResourceKind,
+    at: usize,
+    column: &mut [i64],
+    out: &mut [u64],
+)
     requires { ⌜ IsPlanOf (now book) date plan ⌝ }
     requires { ⌜ (at < 6) × (length (now column) ≡ plan .activities .count) × (length (now out) ≡ plan .activities .count * 6) ⌝ }
     ensures { λ r. ⌜ now (out .exit) ≡ placed 6 at (columnOf (kindCost (content (now (book .entry))) kind) (content (now (book .entry)))) (now (out .entry)) ⌝ }
@@ -29,7 +37,14 @@ fn put_cost(book: &[u8], date: OptionalNumber, plan: Plan, kind: ResourceKind, a
 }
 
 // The cost of the expenses.
-fn put_expenses(book: &[u8], date: OptionalNumber, plan: Plan, at: usize, column: &mut [i64], out: &mut [u64])
+fn put_expenses(
+    book: &[u8],
+    date: OptionalNumber,
+    plan: Plan,
+    at: usize,
+    column: &mut [i64],
+    out: &mut [u64],
+)
     requires { ⌜ IsPlanOf (now book) date plan ⌝ }
     requires { ⌜ (at < 6) × (length (now column) ≡ plan .activities .count) × (length (now out) ≡ plan .activities .count * 6) ⌝ }
     ensures { λ r. ⌜ now (out .exit) ≡ placed 6 at (columnOf (expenseCost (content (now (book .entry)))) (content (now (book .entry)))) (now (out .entry)) ⌝ }
@@ -39,7 +54,15 @@ fn put_expenses(book: &[u8], date: OptionalNumber, plan: Plan, at: usize, column
 }
 
 // The units of one kind of resource.
-fn put_units(book: &[u8], date: OptionalNumber, plan: Plan, kind: ResourceKind, at: usize, column: &mut [i64], out: &mut [u64])
+fn put_units(
+    book: &[u8],
+    date: OptionalNumber,
+    plan: Plan,
+    kind: ResourceKind,
+    at: usize,
+    column: &mut [i64],
+    out: &mut [u64],
+)
     requires { ⌜ IsPlanOf (now book) date plan ⌝ }
     requires { ⌜ (at < 6) × (length (now column) ≡ plan .activities .count) × (length (now out) ≡ plan .activities .count * 6) ⌝ }
     ensures { λ r. ⌜ now (out .exit) ≡ placed 6 at (columnOf (kindUnits (content (now (book .entry))) kind) (content (now (book .entry)))) (now (out .entry)) ⌝ }

@@ -21,7 +21,14 @@ pub fn is_date(day: u64) -> bool
 }
 
 // A row for each date that something falls on, where they fit.
-pub fn spending_of(book: &[u8], date: OptionalNumber, plan: Plan, from: u64, to: u64, out: &mut [u64]) -> Reply
+pub fn spending_of(
+    book: &[u8],
+    date: OptionalNumber,
+    plan: Plan,
+    from: u64,
+    to: u64,
+    out: &mut [u64],
+) -> Reply
     requires { ⌜ IsPlanOf (now book) date plan ⌝ }
     ensures { λ r. ⌜ Answers (from ∷ to ∷ []) (spendingRows from to (content (now (book .entry)))) (now (out .entry)) r (now (out .exit)) ⌝ }
 {

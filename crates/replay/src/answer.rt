@@ -14,6 +14,15 @@ pub fn unknown() -> Answer {
     }
 }
 
+// What was given is not told in numbers.
+pub fn untold() -> Answer {
+    Answer {
+        known: true,
+        values: [0; 4],
+        count: 0,
+    }
+}
+
 pub fn one(x: u64) -> Answer {
     Answer {
         known: true,

@@ -12,7 +12,7 @@ pub struct Asked {
 }
 
 // How many bytes of a book were read, and where they end in the line.
-struct Read {
+pub struct Read {
     pub count: usize,
     pub next: usize,
 }
@@ -37,7 +37,7 @@ fn digit(b: u8) -> u8
 }
 
 // Reads pairs of digits into `out`, as far as there are both.
-fn read_bytes(line: &[u8], from: usize, out: &mut [u8]) -> Read {
+pub fn read_bytes(line: &[u8], from: usize, out: &mut [u8]) -> Read {
     let mut at = from;
     let mut n: usize = 0;
     while n < out.len() {

@@ -1,10 +1,11 @@
 // Replays vectors from standard input: each line names a function, its arguments and the numbers that it must give. Prints
-// each line that differs, with what the function gave, and a count.
+// each line that differs, with what the function gave unless it is a call that leaves rows, and a count.
 ghost use Prim.Native.Nat.{_≤_};
 ghost use lib.ListN.{length};
 
 mod answer;
 mod books;
+mod calls;
 mod functions;
 mod text;
 mod vector;
@@ -38,14 +39,16 @@ fn print(s: &[u8]) {
     io::write_all(OUT, s);
 }
 
-// A line that differs, and what its function gave.
+// A line that differs, and what its function gave, where that is told.
 fn report(line: &[u8], a: Answer) {
     print(b"differs: ");
     print(line);
     if a.known {
-        print(b" gives");
         let values = a.values;
         let n = a.count;
+        if 0 < n {
+            print(b" gives");
+        }
         for k in 0..4 {
             if k < n {
                 print(b" ");
@@ -84,6 +87,12 @@ fn replay_book(line: &[u8], from: usize, tally: Tally) -> Tally {
     counted(line, a, same, tally)
 }
 
+// Replays a line of a call that leaves rows in lent memory.
+fn replay_call(line: &[u8], from: usize, tally: Tally) -> Tally {
+    let same = calls::holds(line, from);
+    counted(line, answer::untold(), same, tally)
+}
+
 // Replays one line.
 fn replay(line: &[u8], tally: Tally) -> Tally {
     let end = text::find(line, 0, text::BLANK);
@@ -92,6 +101,9 @@ fn replay(line: &[u8], tally: Tally) -> Tally {
     }
     if check::same(&line[..end], b"verdict") {
         return replay_book(line, end + 1, tally);
+    }
+    if check::same(&line[..end], b"call") {
+        return replay_call(line, end + 1, tally);
     }
     let numbers = vector::numbers(line, end);
     let values = numbers.values;

@@ -77,7 +77,13 @@ pub extern "C" fn surukeva_actual_by_kind(book: &[u8], out: &mut [u64], at: &mut
 
 // The spending between two dates.
 #[no_mangle]
-pub extern "C" fn surukeva_spending(book: &[u8], from: u64, to: u64, out: &mut [u64], at: &mut u64) -> u64
+pub extern "C" fn surukeva_spending(
+    book: &[u8],
+    from: u64,
+    to: u64,
+    out: &mut [u64],
+    at: &mut u64,
+) -> u64
     ensures { λ r. ⌜ r ≡ replyNumber (reply (from ∷ to ∷ []) (spendingRows from to) (now (book .entry)) (length (now (out .entry)))) ⌝ }
     ensures place { λ r. ⌜ now (at .exit) ≡ replyPlace (reply (from ∷ to ∷ []) (spendingRows from to) (now (book .entry)) (length (now (out .entry)))) ⌝ }
     ensures lent { λ r. ⌜ now (out .exit) ≡ left (from ∷ to ∷ []) (spendingRows from to) (now (book .entry)) (now (out .entry)) ⌝ }

@@ -35,6 +35,24 @@ replay-book-requires c κs = search needs
 returns-2 : tie.Need-returns-2
 returns-2 c = search needs
 
+slice-aggregate-same-3 : tie.Need-slice-aggregate-same-3
+slice-aggregate-same-3 c = sym (length-take-le _ _ (search needs))
+
+slice-aggregate-same-4 : tie.Need-slice-aggregate-same-4
+slice-aggregate-same-4 c = search needs
+
+same-requires-2 : tie.Need-same-requires-2
+same-requires-2 c κs = search needs
+
+add-replay-call : tie.Need-add-replay-call
+add-replay-call c = search needs
+
+replay-call-requires : tie.Need-replay-call-requires
+replay-call-requires c κs = search needs
+
+returns-3 : tie.Need-returns-3
+returns-3 c = search needs
+
 numbers-requires : tie.Need-numbers-requires
 numbers-requires c κs = search needs
 
@@ -50,8 +68,8 @@ agrees-requires c κs = search needs
 counted-requires-2 : tie.Need-counted-requires-2
 counted-requires-2 c κs = search needs
 
-returns-3 : tie.Need-returns-3
-returns-3 c = search needs
+returns-4 : tie.Need-returns-4
+returns-4 c = search needs
 
 pub replay-spec : {M : Type 1} → statement M
 replay-spec =
@@ -67,9 +85,15 @@ replay-spec =
     add-replay-book
     replay-book-requires
     returns-2
+    slice-aggregate-same-3
+    slice-aggregate-same-4
+    same-requires-2
+    add-replay-call
+    replay-call-requires
+    returns-3
     numbers-requires
     slice-aggregate-answer
     answer-requires
     agrees-requires
     counted-requires-2
-    returns-3)
+    returns-4)
