@@ -2,7 +2,7 @@
 use Prim.Native.Nat.{ℕ, _≤_}
 use native.Mathlib.Omega.{arith}
 use mathlib.Core.Path.{_≡_, ap, sym, _∙_}
-use mathlib.Core.List.{List, []}
+use mathlib.Core.List.{List, [], _∷_}
 use mathlib.Core.Option.{Option, none, some, Option·getD}
 use lib.ListN.{length}
 use Rattle.format.specs.declared.Pos.{Pos}
@@ -12,18 +12,19 @@ use Rattle.format.specs.Inverse.{Given}
 use Rattle.format.specs.Codec.{Codec, marked, upTo}
 use Rattle.format.specs.Records.{nextOf}
 use Rattle.format.specs.Book.{BaselineLine, Book}
-use Rattle.format.specs.Format.{baselineLine}
+use Rattle.format.specs.Format.{baselineLine, budget}
 use Rattle.format.specs.Verdict.{content, verdict}
-use Rattle.format.specs.InRange.{Every, ActivityInRange, AssignmentInRange, ExpenseInRange, BaselineLineInRange, BaselineInRange}
-use Rattle.format.proofs.Walks.{began}
+use Rattle.format.specs.InRange.{Every, ActivityInRange, AssignmentInRange, ExpenseInRange, BaselineLineInRange, BaselineInRange, BudgetInRange, BudgetChangeInRange, PeriodRecordInRange}
+use Rattle.format.proofs.Walks.{times-length, began}
 use Rattle.format.proofs.Theorems.{verdict-accepts, content-limits, content-in-range}
 use Rattle.fields.specs.declared.OptionalNumber.{OptionalNumber}
 use Rattle.book.specs.declared.Section.{Section}
 use Rattle.book.specs.declared.layout.Plan.{Plan}
+use Rattle.book.specs.declared.layout.Ledger.{Ledger}
 use Rattle.book.specs.declared.layout.Layout.{Layout}
-use Rattle.book.specs.Sections.{IsAlike, alikeIn}
+use Rattle.book.specs.Sections.{IsAlike, elements, alikeIn}
 use Rattle.book.specs.Layout.{IsLayout, bookOf}
-use Rattle.book.specs.Plan.{Placed, IsPlanOf, IsBaselineOf}
+use Rattle.book.specs.Plan.{Placed, IsPlanOf, IsBaselineOf, IsLedgerOf}
 use Rattle.book.proofs.Whole.{layout-book}
 use Rattle.book.proofs.Index.{Stands, alike-length, element-placed, ended, back}
 
@@ -45,9 +46,25 @@ module _ (s : List ℕ) (r : Layout) (l : IsLayout s r) where
   unfolding bookOf
   baseline-of = record { lines = sym (ap (λ (b : Book). b .baseline) same) }
 
+  pub ledger-of : IsLedgerOf s (r .plan) (r .ledger)
+  unfolding bookOf
+  ledger-of =
+      record {
+        baseline = baseline-of;
+        budgets = sym (ap (λ (b : Book). b .budgets) same);
+        log = sym (ap (λ (b : Book). b .log) same);
+        funds = sym (ap (λ (b : Book). b .funds) same);
+        periods = sym (ap (λ (b : Book). b .periods) same);
+        records = sym (ap (λ (b : Book). b .records) same);
+      }
+
   pub technique-of : content s .technique ≡ r .header .technique
   unfolding bookOf
   technique-of = sym (ap (λ (b : Book). b .technique) same)
+
+  pub forecast-of : content s .forecast ≡ r .header .forecast
+  unfolding bookOf
+  forecast-of = sym (ap (λ (b : Book). b .forecast) same)
 
   module _ (j : ℕ) (accepted : verdict s ≡ At j) where
     baseline-stands : Stands (r .ledger .baseline .next)
@@ -149,3 +166,46 @@ module _ {s : List ℕ} {date : OptionalNumber} {plan : Plan} (p : IsPlanOf s da
 
   pub lines-in-range : Every (BaselineLineInRange (plan .activities .count)) (Option·getD (content s .baseline) [])
   lines-in-range = rw (← activities-count) (lines-range _ (content s .baseline) (content-in-range s (p .accepted) .baseline))
+
+  pub budgets-in-range : Every (BudgetInRange (plan .activities .count)) (content s .budgets)
+  budgets-in-range = rw (← activities-count) (content-in-range s (p .accepted) .budgets)
+
+  pub log-in-range : Every (BudgetChangeInRange (plan .activities .count)) (content s .log)
+  log-in-range = rw (← activities-count) (content-in-range s (p .accepted) .log)
+
+  -- ---- of the ledger's lists
+
+  module _ {ledger : Ledger} (l : IsLedgerOf s plan ledger) where
+    pub budgets-count : length (content s .budgets) ≡ ledger .budgets .count
+    unfolding elements
+    budgets-count = ap length (l .budgets) ∙ times-length (budget (plan .activities .count)) (λ before b. b .activity ∷ before) s (ledger .budgets .count) [] (ledger .budgets .first)
+
+    pub log-count : length (content s .log) ≡ ledger .log .count
+    log-count = ap length (l .log) ∙ alike-length _ s (ledger .log)
+
+    pub funds-count : length (content s .funds) ≡ ledger .funds .count
+    funds-count = ap length (l .funds) ∙ alike-length _ s (ledger .funds)
+
+    pub periods-count : length (content s .periods) ≡ ledger .periods .count
+    periods-count = ap length (l .periods) ∙ alike-length _ s (ledger .periods)
+
+    pub records-count : length (content s .records) ≡ ledger .records .count
+    records-count = ap length (l .records) ∙ alike-length _ s (ledger .records)
+
+    pub budgets-most : ledger .budgets .count ≤ 501
+    budgets-most = rw budgets-count at (content-limits s (p .accepted) .budgets)
+
+    pub log-most : ledger .log .count ≤ 500
+    log-most = rw log-count at (content-limits s (p .accepted) .log)
+
+    pub funds-most : ledger .funds .count ≤ 100
+    funds-most = rw funds-count at (content-limits s (p .accepted) .funds)
+
+    pub periods-most : ledger .periods .count ≤ 240
+    periods-most = rw periods-count at (content-limits s (p .accepted) .periods)
+
+    pub records-most : ledger .records .count ≤ 2000
+    records-most = rw records-count at (content-limits s (p .accepted) .records)
+
+    pub records-in-range : Every (PeriodRecordInRange (ledger .periods .count) (plan .activities .count)) (content s .records)
+    records-in-range = rw (← periods-count, ← activities-count) (content-in-range s (p .accepted) .records)

@@ -17,3 +17,5 @@ pub mod EarnedValue
 pub mod Demand
 pub mod Example
 pub mod Cases
+pub mod Forecast
+pub mod BudgetCases

@@ -8,3 +8,8 @@ pub mod Costs
 pub mod Planned
 pub mod Earned
 pub mod Demand
+pub mod Forecast
+pub mod Variances
+pub mod Budgets
+pub mod Periods
+pub mod Months

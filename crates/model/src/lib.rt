@@ -25,3 +25,13 @@ pub struct Earned {
     pub actual: i64,
     pub remaining: i64,
 }
+
+// The three indices of a row of earned value, each with a flag that says whether there is one.
+pub struct Indices {
+    pub cpi: f64,
+    pub hasCpi: bool,
+    pub spi: f64,
+    pub hasSpi: bool,
+    pub tcpi: f64,
+    pub hasTcpi: bool,
+}
