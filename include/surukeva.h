@@ -29,6 +29,16 @@ uint64_t surukeva_actual_by_kind(const uint8_t *book, size_t len, uint64_t *out,
 /* Two numbers for each date from `from` to `to` that something is charged on: the date and the amount. */
 uint64_t surukeva_spending(const uint8_t *book, size_t len, uint64_t from, uint64_t to, uint64_t *out, size_t out_len, uint64_t *at);
 
+/* Six numbers for each activity at the status date `date`: its budget, planned value, earned value, actual and remaining cost, and
+   what is spent of the budget, in hundredths of a percent. */
+uint64_t surukeva_earned_value(const uint8_t *book, size_t len, uint64_t date, uint64_t *out, size_t out_len, uint64_t *at);
+
+/* The same six numbers of the leaves, added up; what is spent is of the sums. */
+uint64_t surukeva_project_earned(const uint8_t *book, size_t len, uint64_t date, uint64_t *out, size_t out_len, uint64_t *at);
+
+/* Two numbers for each date from `from` to `to` that a leaf lists: the date and the planned value up to it. */
+uint64_t surukeva_planned_curve(const uint8_t *book, size_t len, uint64_t from, uint64_t to, uint64_t *out, size_t out_len, uint64_t *at);
+
 #ifdef __cplusplus
 }
 #endif

@@ -9,7 +9,7 @@
 
 #include "surukeva.h"
 
-enum { STACK = 8 << 20, PAINT = 0xa5, LONGEST = 1 << 20 };
+enum { STACK = 8 << 20, PAINT = 0xa5, LONGEST = 1 << 20, FIRST_DAY = 10957, LAST_DAY = 47481 };
 
 static uint8_t book[LONGEST];
 static size_t length;
@@ -41,7 +41,22 @@ static void *actual_by_kind(void *unused) {
 }
 
 static void *spending(void *unused) {
-    surukeva_spending(book, length, 10957, 47481, out, lent, &at);
+    surukeva_spending(book, length, FIRST_DAY, LAST_DAY, out, lent, &at);
+    return unused;
+}
+
+static void *earned_value(void *unused) {
+    surukeva_earned_value(book, length, LAST_DAY, out, lent, &at);
+    return unused;
+}
+
+static void *project_earned(void *unused) {
+    surukeva_project_earned(book, length, LAST_DAY, out, lent, &at);
+    return unused;
+}
+
+static void *planned_curve(void *unused) {
+    surukeva_planned_curve(book, length, FIRST_DAY, LAST_DAY, out, lent, &at);
     return unused;
 }
 
@@ -72,5 +87,8 @@ int main(void) {
     report("project_cost", project_cost);
     report("actual_by_kind", actual_by_kind);
     report("spending", spending);
+    report("earned_value", earned_value);
+    report("project_earned", project_earned);
+    report("planned_curve", planned_curve);
     return 0;
 }

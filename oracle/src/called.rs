@@ -7,7 +7,15 @@ use crate::generate;
 use crate::traps;
 
 /// The calls that the replay knows.
-const REPLAYED: [&str; 4] = ["costs", "project_cost", "actual_by_kind", "spending"];
+const REPLAYED: [&str; 7] = [
+    "costs",
+    "project_cost",
+    "actual_by_kind",
+    "spending",
+    "earned_value",
+    "project_earned",
+    "planned_curve",
+];
 /// A longer lent slice is left out.
 const MOST_LENT: usize = 600;
 /// How many books are made beside the trap books, and how long they may be.
@@ -34,7 +42,7 @@ fn first_start(bytes: &[u8]) -> u64 {
     first.unwrap_or(20_000)
 }
 
-/// What a call is asked: all days, a part of them, and days that are refused.
+/// What a call is asked: all days or one, a part of them, and days that are refused.
 fn questions(call: &Call, bytes: &[u8]) -> Vec<Vec<u64>> {
     match call.asked {
         [Asked::Date, Asked::Date] => {
@@ -48,14 +56,22 @@ fn questions(call: &Call, bytes: &[u8]) -> Vec<Vec<u64>> {
                 .map(|(from, to)| vec![*from, *to])
                 .collect()
         }
+        [Asked::Date] => {
+            let day = first_start(bytes) + 1;
+            let beyond = if day % 2 == 0 { FIRST_DAY - 1 } else { LAST_DAY + 1 };
+            [day, LAST_DAY, beyond].iter().map(|day| vec![*day]).collect()
+        }
         _ => vec![Vec::new()],
     }
 }
 
-/// The lines of a call on one book: a slice that fits, a longer one, one that is too short by one, and an empty one.
+/// The lines of a call on one book: a slice that fits, a longer one, one that is too short by one, and an empty one; a
+/// single slice where the call is refused.
 fn lines(call: &Call, bytes: &[u8], asked: &[u64]) -> String {
-    let needed = call.rows(bytes, asked).map_or(0, |rows| rows.len());
-    let mut lengths = vec![needed, needed + 3, needed.saturating_sub(1), 0];
+    let mut lengths = match call.rows(bytes, asked) {
+        Ok(rows) => vec![rows.len(), rows.len() + 3, rows.len().saturating_sub(1), 0],
+        Err(_) => vec![3],
+    };
     lengths.retain(|length| *length <= MOST_LENT);
     lengths.sort_unstable();
     lengths.dedup();
@@ -64,12 +80,12 @@ fn lines(call: &Call, bytes: &[u8], asked: &[u64]) -> String {
 
 /// The trap books of a file, then short ones of each quick kind.
 fn books(file: &str) -> Vec<Vec<u8>> {
-    let stored = file.lines().filter_map(|line| line.strip_prefix("book ")?.split_once(' '));
+    let stored = traps::books(file).into_iter().map(|(_, bytes)| bytes);
     let kinds = ["small", "ends", "tree", "calendar", "money"];
     let made =
         (1..=60).flat_map(|seed| kinds.iter().filter_map(move |kind| generate::book(kind, seed)));
     let short = made.map(|book| encode(&book)).filter(|bytes| bytes.len() <= MOST_BYTES);
-    stored.map(|(_, digits)| traps::bytes(digits)).chain(short.take(MADE)).collect()
+    stored.chain(short.take(MADE)).collect()
 }
 
 /// The lines of every replayed call on those books.

@@ -8,8 +8,8 @@ use crate::random::{Random, Size};
 /// The kinds of accepted book that the Rust answers quickly, the smallest first.
 const QUICK: [&str; 9] =
     ["small", "ends", "tree", "calendar", "money", "periods", "long", "large", "programme"];
-/// The others; `any` is one of the quick ones.
-const OTHERS: [&str; 3] = ["full", "worst", "any"];
+/// The others; `any` is one of the quick ones, `example` is document 01's, whatever the seed.
+const OTHERS: [&str; 4] = ["full", "worst", "any", "example"];
 
 /// Every kind of accepted book.
 pub fn kinds() -> impl Iterator<Item = &'static str> {
@@ -28,9 +28,32 @@ pub fn book(kind: &str, seed: u64) -> Option<Book> {
         "full" => full(&mut random),
         "worst" => worst(&mut random),
         "programme" => crate::programme::book(&mut random),
+        "example" => example(),
         _ => Maker { shape: shape(kind, &mut random)?, random }.book(),
     };
     Some(fitted(book))
+}
+
+/// The book that document 01 prints the status of.
+pub fn example() -> Book {
+    let dates =
+        Activity { status: 1, early_start: 19_723, early_finish: 19_725, ..Default::default() };
+    let below = Activity {
+        parent: Some(0),
+        actual_start: Some(19_723),
+        working_minutes: 1_440,
+        remaining_minutes: 960,
+        percent: Some(5_000),
+        ..dates.clone()
+    };
+    let expense = Expense { activity: 1, accrual: 2, planned: 1_000, actual: 400, remaining: 600 };
+    Book {
+        data_date: Some(19_724),
+        calendars: vec![Calendar { week: 31, ..Default::default() }],
+        activities: vec![dates, below],
+        expenses: vec![expense],
+        ..Default::default()
+    }
 }
 
 /// What a call is asked: mostly what the book has, at times what it has not.

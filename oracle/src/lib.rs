@@ -8,6 +8,7 @@ pub mod calls;
 pub mod damage;
 pub mod encode;
 pub mod generate;
+pub mod growth;
 pub mod leaf;
 #[cfg(feature = "library")]
 pub mod library;
@@ -17,6 +18,7 @@ pub mod random;
 pub mod sample;
 pub mod selftest;
 pub mod status;
+pub mod statuses;
 pub mod traps;
 pub mod vectors;
 pub mod verdicts;

@@ -3,10 +3,11 @@
 // An archive may have no export of one of the tables.
 #![allow(dead_code, unused_imports)]
 
-use std::fmt::Debug;
+use std::fmt::{Debug, Write};
 use std::hint::black_box;
 use std::time::Instant;
 
+use crate::book::{FIRST_DAY, LAST_DAY};
 use crate::calls::{Answer, Call};
 use crate::leaf as rust;
 use crate::random::Random;
@@ -213,4 +214,64 @@ book_calls! {
     "surukeva_budget" surukeva_budget "budget" Plain();
     "surukeva_funding" surukeva_funding "funding" Plain();
     "surukeva_spending_by_month" surukeva_spending_by_month "spending_by_month" Plain();
+}
+
+/// The calls that the status is made of.
+pub struct Status {
+    earned: BookCall,
+    total: BookCall,
+    curve: BookCall,
+}
+
+impl Status {
+    /// They, if the archive exports all of them.
+    pub fn new() -> Option<Status> {
+        let named = |name: &str| book_calls().into_iter().find(|call| call.rust.name == name);
+        Some(Status {
+            earned: named("earned_value")?,
+            total: named("project_earned")?,
+            curve: named("planned_curve")?,
+        })
+    }
+
+    /// The text of the status program, from the rows that the archive puts into `lent`.
+    pub fn text(&self, book: &[u8], lent: &mut [u64]) -> String {
+        let mut text = String::new();
+        let day = data_date(book);
+        let (number, count) = self.earned.answer(book, &[day], lent);
+        if number != 0 {
+            return format!("refused {number} {count}\n");
+        }
+        for (index, row) in lent.chunks(6).take(count as usize).enumerate() {
+            text.push_str(&index.to_string());
+            figures(&mut text, row);
+        }
+        self.total.answer(book, &[day], lent);
+        text.push_str("total");
+        figures(&mut text, &lent[..6]);
+        let (_, count) = self.curve.answer(book, &[FIRST_DAY, LAST_DAY], lent);
+        for point in lent.chunks(2).take(count as usize) {
+            text.push_str(&point[0].to_string());
+            figures(&mut text, &point[1..]);
+        }
+        text
+    }
+}
+
+/// Signed numbers, each behind a blank, and the line's end.
+fn figures(text: &mut String, numbers: &[u64]) {
+    for number in numbers {
+        write!(text, " {}", *number as i64).expect("text takes all");
+    }
+    text.push('\n');
+}
+
+/// The data date behind the edition and its mark, the last day if there is none.
+fn data_date(book: &[u8]) -> u64 {
+    if book.get(1) != Some(&1) {
+        return LAST_DAY;
+    }
+    let groups = book[2..].iter().take(3);
+    let last = groups.clone().position(|byte| *byte < 0x80).unwrap_or(0);
+    groups.take(last + 1).enumerate().map(|(k, byte)| u64::from(byte & 0x7f) << (7 * k)).sum()
 }

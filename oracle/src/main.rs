@@ -4,10 +4,11 @@ use std::io::{Read, Write, stdin, stdout};
 use std::process::ExitCode;
 
 use oracle::damage::Damage;
-use oracle::{called, generate, sample, selftest, status, traps, vectors, verdicts};
+use oracle::{called, generate, sample, selftest, status, statuses, traps, vectors, verdicts};
 
 const USAGE: &str = "oracle answer CALL [ASKED..] < BOOK
 oracle status < BOOK
+oracle statuses PROGRAM SEED COUNT TRAPS
 oracle traps FILE
 oracle generate KIND SEED > BOOK
 oracle sample KIND SEED
@@ -22,6 +23,9 @@ fn main() -> ExitCode {
     let done = match words[..] {
         ["answer", ..] if words.len() > 1 => answer(&words[1..].join(" ")),
         ["status"] => print(status::text(&standard_input()).as_bytes()),
+        ["statuses", program, seed, count, file] => number(seed)
+            .zip(number(count))
+            .and_then(|(seed, count)| compare_statuses(program, seed, count, file)),
         ["traps", file] => check_traps(file),
         ["generate", kind, seed] => {
             number(seed).and_then(|seed| sample::bytes(kind, seed)).and_then(|bytes| print(&bytes))
@@ -85,6 +89,15 @@ fn check_traps(file: &str) -> Option<bool> {
     outcome.differences.iter().for_each(|text| println!("{text}"));
     let differ = outcome.differences.len();
     println!("{} books, {} lines agree, {differ} differ", outcome.books, outcome.agreed);
+    Some(differ == 0)
+}
+
+fn compare_statuses(program: &str, seed: u64, count: u64, file: &str) -> Option<bool> {
+    let text = std::fs::read_to_string(file).ok()?;
+    let outcome = statuses::compare(program, seed, count, &text);
+    outcome.differences.iter().for_each(|text| println!("status DIFFERS on {text}"));
+    let (refused, differ) = (outcome.refused, outcome.differences.len());
+    println!("status: {} books, {refused} refused, {differ} differ", outcome.books);
     Some(differ == 0)
 }
 

@@ -36,6 +36,18 @@ fn damaged_copy(damage: Damage, random: &mut Random) -> Option<Vec<u8>> {
     }
 }
 
+/// A made book and its bytes; of `whole` such books one is damaged, and one has a few bytes changed.
+pub fn drawn(whole: u64, random: &mut Random) -> (Book, Vec<u8>) {
+    let book = generate::book("any", random.number()).unwrap_or_default();
+    let damage = random.pick(&Damage::ALL);
+    let bytes = match (random.below(whole), damaged(&book, damage, random)) {
+        (0, Some((bytes, _))) => bytes,
+        (1, _) => mutated(encode(&book), random),
+        _ => encode(&book),
+    };
+    (book, bytes)
+}
+
 /// A book with the answers to every call and its status; a refused book with its verdict.
 pub fn text(kind: &str, seed: u64) -> Option<String> {
     let bytes = bytes(kind, seed)?;

@@ -5,7 +5,7 @@ use mkperth_sched::Earned;
 use mkperth_sched::costs::spread;
 
 use crate::arguments::{FIRST_DATE, LAST_DATE};
-use crate::book::{self, Book, LONGEST, decode};
+use crate::book::{LONGEST, decode};
 use crate::calls::{CALLS, Call, MOST_NUMBERS};
 use crate::damage::{Damage, damaged};
 use crate::encode::encode;
@@ -72,37 +72,10 @@ pub fn run(books: u64) -> Tally {
     tally
 }
 
-/// The book that document 01 prints the status of.
-pub fn example_book() -> Book {
-    let dates = book::Activity {
-        status: 1,
-        early_start: 19_723,
-        early_finish: 19_725,
-        ..Default::default()
-    };
-    let below = book::Activity {
-        parent: Some(0),
-        actual_start: Some(19_723),
-        working_minutes: 1_440,
-        remaining_minutes: 960,
-        percent: Some(5_000),
-        ..dates.clone()
-    };
-    let expense =
-        book::Expense { activity: 1, accrual: 2, planned: 1_000, actual: 400, remaining: 600 };
-    Book {
-        data_date: Some(19_724),
-        calendars: vec![book::Calendar { week: 31, ..Default::default() }],
-        activities: vec![dates, below],
-        expenses: vec![expense],
-        ..Default::default()
-    }
-}
-
 fn example(tally: &mut Tally) {
     let expected = "0 1000 667 500 400 600 4000\n1 1000 667 500 400 600 4000\n\
         total 1000 667 500 400 600 4000\n19723 334\n19724 667\n19725 1000\n";
-    tally.equal("status", status::text(&encode(&example_book())).as_str(), expected);
+    tally.equal("status", status::text(&encode(&generate::example())).as_str(), expected);
     tally.equal("status of no bytes", status::text(&[]).as_str(), "refused 2 0\n");
 }
 

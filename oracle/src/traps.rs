@@ -39,6 +39,12 @@ pub fn check(text: &str) -> Outcome {
     outcome
 }
 
+/// The names and the bytes of the books of such a text.
+pub fn books(text: &str) -> Vec<(&str, Vec<u8>)> {
+    let stored = text.lines().filter_map(|line| line.strip_prefix("book ")?.split_once(' '));
+    stored.map(|(name, digits)| (name, bytes(digits))).collect()
+}
+
 /// The bytes that hexadecimal digits stand for.
 pub fn bytes(digits: &str) -> Vec<u8> {
     let pair = |k: usize| u8::from_str_radix(digits.get(k..k + 2)?, 16).ok();

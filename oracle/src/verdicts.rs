@@ -17,8 +17,7 @@ pub fn line(bytes: &[u8]) -> String {
 
 /// The trap books of a file, then the damaged books.
 pub fn text(traps: &str) -> String {
-    let stored = traps.lines().filter_map(|line| line.strip_prefix("book ")?.split_once(' '));
-    let books = stored.map(|(_, digits)| traps::bytes(digits)).chain(damaged());
+    let books = traps::books(traps).into_iter().map(|(_, bytes)| bytes).chain(damaged());
     books.map(|bytes| format!("verdict {}\n", line(&bytes))).collect()
 }
 

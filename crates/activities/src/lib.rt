@@ -2,6 +2,7 @@
 pub mod columns;
 pub mod spans;
 pub mod stretches;
+pub mod ways;
 
 // From a date to another, both included.
 pub struct Stretch {

@@ -71,7 +71,7 @@ fn remaining_since(status: Status, date: OptionalNumber, start: u64, finish: u64
 }
 
 // The first date of an activity's days; 0 where it has none.
-fn first_date(date: OptionalNumber, way: Way, activity: Activity) -> u64
+pub fn first_date(date: OptionalNumber, way: Way, activity: Activity) -> u64
     ensures { λ r. ⌜ r ≡ firstDate (numberOption date) way (activityOf activity) ⌝ }
 {
     match way {
@@ -85,7 +85,7 @@ fn first_date(date: OptionalNumber, way: Way, activity: Activity) -> u64
 }
 
 // The last date of its span.
-fn last_date(date: OptionalNumber, way: Way, activity: Activity) -> u64
+pub fn last_date(date: OptionalNumber, way: Way, activity: Activity) -> u64
     ensures { λ r. ⌜ r ≡ lastDate (numberOption date) way (activityOf activity) ⌝ }
 {
     match way {

@@ -1,3 +1,4 @@
 pub mod Overlays
 pub mod Spans
 pub mod Parts
+pub mod Freed

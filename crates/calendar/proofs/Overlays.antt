@@ -20,7 +20,7 @@ use Rattle.calendar.specs.Tables.{usual, entry, one, Shows, marked, over
 
 -- ---- one date
 
-length-marked : (base date : ℕ) (works : Bool) (days : List ℕ) → length (marked base date works days) ≡ length days
+pub length-marked : (base date : ℕ) (works : Bool) (days : List ℕ) → length (marked base date works days) ≡ length days
 unfolding marked
 length-marked base date works days = go (leb base date)
   where
@@ -41,7 +41,7 @@ module _ (base date : ℕ) (first : base ≤ date) (days : List ℕ) where
       go true e = getD-set-other days (d - base) (date - base) (one works) 0 (λ q. n (omega (arith, leb-true base d e)))
       go false e = refl
 
-  marked-is : date - base < length days → (d : ℕ) (works b : Bool) → entry base days date ≡ one b → entry base (marked base d works days) date ≡ one (cond (eqb date d) works b)
+  pub marked-is : date - base < length days → (d : ℕ) (works b : Bool) → entry base days date ≡ one b → entry base (marked base d works days) date ≡ one (cond (eqb date d) works b)
   marked-is h d works b e = go (eqb date d) refl
     where
       go : (t : Bool) → eqb date d ≡ t → entry base (marked base d works days) date ≡ one (cond t works b)

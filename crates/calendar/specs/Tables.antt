@@ -4,10 +4,12 @@ use mathlib.Core.Path.{_≡_}
 use mathlib.Core.Bool.{Bool, true, false, not, cond, _&&_}
 use mathlib.Core.List.{List, [], _∷_}
 use lib.Dec.{eqb, leb, ltb}
-use lib.IntN.{pos}
+use lib.IntN.{pos, negsuc}
 use lib.ListN.{length, getD, set}
 use Rattle.format.specs.declared.Region.{Region}
 use Rattle.format.specs.Book.{Calendar}
+use Rattle.dates.specs.declared.Day.{Day}
+use Rattle.dates.specs.declared.Day.the-variants.{At, Nothing}
 use Rattle.dates.specs.Date.{weekdayOf}
 use Rattle.model.specs.Lists.{span, keep}
 use Rattle.model.specs.Calendar.{isRegionHoliday, worksOn, isWorking}
@@ -37,6 +39,12 @@ works base days date = eqb (entry base days date) 1
 -- the table with one date set; a date outside it sets nothing
 unfoldable pub marked : ℕ → ℕ → Bool → List ℕ → List ℕ
 marked base date working days = cond (leb base date) (set days (date - base) (one working)) days
+
+-- the table with one day set as not worked
+unfoldable pub freed : ℕ → List ℕ → Day → List ℕ
+freed base days Nothing = days
+freed base days (At (negsuc n)) = days
+freed base days (At (pos date)) = marked base date false days
 
 -- the table with the date of each element set, in their order
 unfoldable pub overlaid : {A : Type 0} → ℕ → (A → ℕ) → (A → Bool) → List A → List ℕ → List ℕ

@@ -1,9 +1,9 @@
 // The table of a calendar's days: 1 where the date works, 0 where not.
-use crate::usual::usual_day;
+use crate::marks::mark;
+use crate::usual::fill_usual;
 use book::Section;
 use book::calendars::Calendar;
 use fields::kinds::rising;
-use format::Region;
 use records::calendars::read_exception;
 ghost use mathlib.Core.Path.{_≡_};
 ghost use Prim.Native.Nat.{ℕ, _+_, _-_, _≤_};
@@ -13,41 +13,7 @@ ghost use Rattle.format.specs.Book as content;
 ghost use Rattle.format.specs.Format as layout;
 ghost use Rattle.book.specs.Sections.{elements, calendarOf};
 ghost use Rattle.model.specs.Calendar.{isWorking};
-ghost use Rattle.calendar.specs.Tables.{usual, one, Shows, marked, overlaid};
-
-fn bit(works: bool) -> u8
-    ensures { λ r. ⌜ r ≡ one works ⌝ }
-{
-    if works { 1 } else { 0 }
-}
-
-// Sets a date, if the table has it.
-fn mark(days: &mut [u8], base: u64, date: u64, works: bool)
-    ensures { λ r. ⌜ now (days .exit) ≡ marked base date works (now (days .entry)) ⌝ }
-{
-    if date < base {
-        return;
-    }
-    let i = (date - base) as usize;
-    if i < days.len() {
-        days[i] = bit(works);
-    }
-}
-
-// The week and the region, on each date between two.
-fn fill_usual(week: u64, region: Region, from: u64, to: u64, days: &mut [u8])
-    requires { ⌜ to ≤ 47481 ⌝ }
-    requires { ⌜ to + 1 - from ≤ length (now days) ⌝ }
-    ensures { λ r. ⌜ Shows (usual week region) from to (now (days .exit)) ⌝ }
-{
-    let mut date = from;
-    while date <= to {
-        let works = usual_day(week, region, date);
-        let i = (date - from) as usize;
-        days[i] = bit(works);
-        date += 1;
-    }
-}
+ghost use Rattle.calendar.specs.Tables.{Shows, overlaid};
 
 // Sets each date of a list of days.
 fn overlay_days(book: &[u8], list: Section, works: bool, base: u64, days: &mut [u8])

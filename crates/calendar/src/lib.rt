@@ -2,4 +2,5 @@
 pub mod all;
 pub mod counts;
 pub mod days;
+pub mod marks;
 pub mod usual;

@@ -1,3 +1,4 @@
 pub mod Columns
 pub mod Charges
+pub mod Figures
 pub mod Arguments

@@ -32,7 +32,7 @@ use Rattle.costs.proofs.Columns.{each-at, changed-all}
 use Rattle.costs.proofs.Charged.{saturated-all}
 use Rattle.earned.specs.Listed.{byLine, marked, costIn, linedMark, linedCost}
 use Rattle.earned.specs.Done.{doneAt, shareDone, ifUnits, assigned, plusDone, plusAll}
-use Rattle.earned.specs.Own.{ifLeaf, ofLeaf, budgetIn, earnedIn}
+use Rattle.earned.specs.Own.{ifLeaf, ofLeaf, budgetIn, BudgetColumns, earnedIn}
 use Rattle.earned.proofs.Entries.{entries-are, entries-length, entry-at}
 
 -- ---- columns of leaves
@@ -106,22 +106,26 @@ module _ (book : Book) where
     budget-by i none h = sym (ap (λ (c : Cost). c .budget) (leaf-cost book i h))
     budget-by i (some l) h = refl
 
-    pub frozen-column :
-        (lined : List ℕ) (cost : List ℤ) → lined ≡ map (linedMark book) (indices (parents book)) → cost ≡ map (linedCost book) (indices (parents book)) →
-        eachFigure (λ i z. ifLeaf (getD marks i 0) (budgetIn (getD lined i 0) (figureOf cost i) z)) (map (λ i. saturatedSum (byDay book Planned i)) (indices (parents book)))
-        ≡ map (ofLeaf book (budgetOf book)) (indices (parents book))
+    pub budgets-column :
+        (lined : List ℕ) (cost planned : List ℤ) → BudgetColumns book lined cost marks planned → (n : ℕ) → n ≡ length planned →
+        map (λ i. ifLeaf (getD marks i 0) (budgetIn (getD lined i 0) (figureOf cost i) (figureOf planned i))) (span 0 n) ≡ map (ofLeaf book (budgetOf book)) (indices (parents book))
     unfolding linedMark linedCost budgetOf
-    frozen-column lined cost e f =
-        let n = length (parents book) in
-        let planned : ℕ → ℤ = λ i. saturatedSum (byDay book Planned i) in
-        each-entries (λ i z. ifLeaf (getD marks i 0) (budgetIn (getD lined i 0) (figureOf cost i) z)) planned (ofLeaf book (budgetOf book)) n
+    budgets-column lined cost planned w n e =
+        let count = length (parents book) in
+        let charged : ℕ → ℤ = λ i. saturatedSum (byDay book Planned i) in
+        let frozen : ℕ → ℤ = λ i. budgetIn (getD lined i 0) (figureOf cost i) (figureOf planned i) in
+        let was : ℕ → ℤ = λ i. ifLeaf (getD marks i 0) (frozen i) in
+        ap (λ (m : ℕ). map was (span 0 m)) (e ∙ ap length (w .plannedAre) ∙ entries-length charged count)
+        ∙ entries-are (ofLeaf book (budgetOf book)) (pos 0) (map was (span 0 count)) count (entries-length was count)
         (λ i h.
-        mark-leaf marks m (budgetIn (getD lined i 0) (figureOf cost i) (planned i)) i h
-        ∙ leaf-same (λ j. budgetIn (getD lined j 0) (figureOf cost j) (planned j)) (budgetOf book) i
+        entry-at was (pos 0) count i h
+        ∙ mark-leaf marks m (frozen i) i h
+        ∙ leaf-same frozen (budgetOf book) i
         (λ leaf.
-        ap₂ (λ (u : ℕ) (z : ℤ). budgetIn u z (planned i))
-        (ap (λ (t : List ℕ). getD t i 0) e ∙ entry-at (linedMark book) 0 n i h)
-        (ap (λ (t : List ℤ). figureOf t i) f ∙ entry-at (linedCost book) (pos 0) n i h)
+        ap₂ (λ (u : ℕ) (z : ℤ). budgetIn u z (figureOf planned i))
+        (ap (λ (t : List ℕ). getD t i 0) (w .linedAre) ∙ entry-at (linedMark book) 0 count i h)
+        (ap (λ (t : List ℤ). figureOf t i) (w .costsAre) ∙ entry-at (linedCost book) (pos 0) count i h)
+        ∙ ap (budgetIn (linedMark book i) (linedCost book i)) (ap (λ (t : List ℤ). figureOf t i) (w .plannedAre) ∙ entry-at charged (pos 0) count i h)
         ∙ budget-by i (lineOf book i) leaf))
 
 -- ---- how much is done

@@ -2,16 +2,20 @@
 use Prim.Native.Nat.{ℕ, _≤_}
 use mathlib.Core.Path.{_≡_}
 use mathlib.Core.Bool.{cond}
-use mathlib.Core.List.{List}
+use mathlib.Core.List.{List, map}
 use lib.Dec.{eqb}
 use lib.IntN.{ℤ, pos}
 use lib.ListN.{length, getD}
 use Rattle.floats.specs.Figures.{earnedOf}
 use Rattle.format.specs.declared.EvTechnique.{EvTechnique}
 use Rattle.format.specs.Book.{Activity, Book}
+use Rattle.model.specs.declared.Way.the-variants.{Planned}
 use Rattle.model.specs.Lookup.{noActivity}
-use Rattle.model.specs.Tree.{parents, isLeaf}
-use Rattle.tree.specs.Figures.{figureOf}
+use Rattle.model.specs.Amounts.{saturatedSum}
+use Rattle.model.specs.Tree.{parents, indices, isLeaf}
+use Rattle.model.specs.Costs.{byDay}
+use Rattle.tree.specs.Figures.{figureOf, MarksLeaves}
+use Rattle.earned.specs.Listed.{linedMark, linedCost}
 use Rattle.earned.specs.Done.{shareDone}
 
 -- by a mark, which is 0 for a leaf
@@ -25,6 +29,13 @@ ofLeaf book f i = cond (isLeaf (parents book) i) (f i) (pos 0)
 -- a budget: the cost that the baseline froze where its mark is set, else the cost as it is
 abbrev pub budgetIn : ℕ → ℤ → ℤ → ℤ
 budgetIn lined frozen cost = cond (eqb lined 0) cost frozen
+
+-- the columns that the budgets are made from: the baseline's lines, which activities are leaves, the planned costs
+pub record BudgetColumns (book : Book) (lined : List ℕ) (cost : List ℤ) (marks : List ℕ) (planned : List ℤ) : Type 0 where
+  pub linedAre : lined ≡ map (linedMark book) (indices (parents book))
+  pub costsAre : cost ≡ map (linedCost book) (indices (parents book))
+  pub marksAre : MarksLeaves marks (parents book)
+  pub plannedAre : planned ≡ map (λ i. saturatedSum (byDay book Planned i)) (indices (parents book))
 
 -- what activity i earns, from columns
 abbrev pub earnedIn : EvTechnique → List Activity → List ℤ → List ℤ → List ℤ → List ℕ → ℕ → ℤ

@@ -22,7 +22,7 @@ ghost use Rattle.model.specs.Tree.{parents, indices};
 ghost use Rattle.earned.specs.Listed.{startOf, finishOf, marked, costIn, listedFirst, listedLast, linedMark, linedCost, lined, takenBy, Long, Unmarked, IsLines};
 
 // The lines of a baseline: none without one.
-fn lines_of(baseline: Baseline) -> Section
+pub fn lines_of(baseline: Baseline) -> Section
     ensures { λ r. ⌜ ((s : List ℕ) (n : ℕ) → Option·getD (linesOf s n baseline) [] ≡ alikeIn (layout.baselineLine n) s r) ⌝ }
 {
     let lines = baseline.lines;

@@ -1,13 +1,11 @@
-// Earned value of the activities, and what they cost so far and will cost: of leaves, 0 for parents.
+// Earned value of the activities: of leaves, 0 for parents.
 use crate::performance::share_done;
 use crate::units::fill_units;
 use book::Section;
 use book::layout::Plan;
-use costs::figures::own_costs;
 use fields::OptionalNumber;
 use floats::earned;
 use format::EvTechnique;
-use model::Way;
 use records::activities::Activity;
 use records::activities::read_activity;
 ghost use Prim.Native.Nat.{ℕ, _≤_};
@@ -21,10 +19,8 @@ ghost use Rattle.format.specs.Verdict.{content};
 ghost use Rattle.records.specs.Decoded.{activityOf};
 ghost use Rattle.book.specs.Sections.{alikeIn};
 ghost use Rattle.book.specs.Plan.{IsPlanOf};
-ghost use Rattle.model.specs.Amounts.{saturatedSum};
 ghost use Rattle.model.specs.Lists.{span};
 ghost use Rattle.model.specs.Tree.{parents, indices};
-ghost use Rattle.model.specs.Costs.{byDay};
 ghost use Rattle.model.specs.Planned.{budgetOf};
 ghost use Rattle.model.specs.Earned as model;
 ghost use Rattle.tree.specs.Figures.{MarksLeaves};
@@ -43,7 +39,7 @@ fn if_leaf(mark: u64, figure: i64) -> i64
 }
 
 // The figures of the parents become 0.
-fn clear_parents(marks: &[u64], out: &mut [i64])
+pub fn clear_parents(marks: &[u64], out: &mut [i64])
     requires { ⌜ length (now out) ≤ length (now marks) ⌝ }
     ensures { λ r. ⌜ now (out .exit) ≡ eachFigure (λ i z. ifLeaf (getD (now (marks .entry)) i 0) z) (now (out .entry)) ⌝ }
 {
@@ -53,44 +49,6 @@ fn clear_parents(marks: &[u64], out: &mut [i64])
         out[i] = if_leaf(marks[i], figure);
         i += 1;
     }
-}
-
-// What the leaves cost by themselves.
-fn leaf_costs(
-    book: &[u8],
-    date: OptionalNumber,
-    plan: Plan,
-    way: Way,
-    marks: &[u64],
-    out: &mut [i64],
-)
-    requires { ⌜ IsPlanOf (now book) date plan ⌝ }
-    requires { ⌜ MarksLeaves (now marks) (parents (content (now book))) ⌝ }
-    requires { ⌜ (plan .activities .count ≤ length (now marks)) × (length (now out) ≡ plan .activities .count) ⌝ }
-    ensures { λ r. ⌜ now (out .exit) ≡ map (ofLeaf (content (now (book .entry))) (λ i. saturatedSum (byDay (content (now (book .entry))) way i))) (indices (parents (content (now (book .entry))))) ⌝ }
-{
-    own_costs(book, date, plan, way, out);
-    clear_parents(marks, out);
-}
-
-// The actual cost of the leaves.
-pub fn own_actual(book: &[u8], date: OptionalNumber, plan: Plan, marks: &[u64], out: &mut [i64])
-    requires { ⌜ IsPlanOf (now book) date plan ⌝ }
-    requires { ⌜ MarksLeaves (now marks) (parents (content (now book))) ⌝ }
-    requires { ⌜ (plan .activities .count ≤ length (now marks)) × (length (now out) ≡ plan .activities .count) ⌝ }
-    ensures { λ r. ⌜ ((at : ℕ) → now (out .exit) ≡ map (λ i. model.ownEarned (content (now (book .entry))) at i .actual) (indices (parents (content (now (book .entry)))))) ⌝ }
-{
-    leaf_costs(book, date, plan, Way::Actual, marks, out);
-}
-
-// The remaining cost of the leaves.
-pub fn own_remaining(book: &[u8], date: OptionalNumber, plan: Plan, marks: &[u64], out: &mut [i64])
-    requires { ⌜ IsPlanOf (now book) date plan ⌝ }
-    requires { ⌜ MarksLeaves (now marks) (parents (content (now book))) ⌝ }
-    requires { ⌜ (plan .activities .count ≤ length (now marks)) × (length (now out) ≡ plan .activities .count) ⌝ }
-    ensures { λ r. ⌜ ((at : ℕ) → now (out .exit) ≡ map (λ i. model.ownEarned (content (now (book .entry))) at i .remaining) (indices (parents (content (now (book .entry)))))) ⌝ }
-{
-    leaf_costs(book, date, plan, Way::Remaining, marks, out);
 }
 
 // What a leaf earns, with its units done and in all, 0 for a parent.

@@ -1,39 +1,54 @@
 -- What the rows of points leave in lent memory is what is answered.
-use Prim.Native.Nat.{ℕ, _*_, _≤_, _<_}
-use mathlib.Core.Path.{_≡_, sym, ap, _∙_, subst}
+use Prim.Native.Nat.{ℕ, _*_, _/_, _≤_, _<_}
+use mathlib.Core.Path.{_≡_, refl, sym, ap, _∙_, subst}
 use mathlib.Core.Bool.{Bool, true, cond}
-use mathlib.Core.List.{List, _++_}
+use mathlib.Core.List.{List, [], _∷_, _++_, map, flatMap}
+use native.Mathlib.Decide.{decLt}
 use native.Mathlib.Omega.{arith}
-use lib.ListN.{length, drop}
+use lib.Dec.{leb}
+use lib.ListN.{length, drop, length-map}
 use borrow.Author.Tests.{le-leb, lt-leb}
-use Rattle.format.specs.Book.{Book}
-use Rattle.model.specs.Costs.{spendingBetween}
+use Rattle.model.specs.Amounts.{Dated}
 use Rattle.rows.specs.Rows.{numbers}
-use Rattle.spending.specs.Rows.{pointRows, written}
+use Rattle.spending.specs.Rows.{pointRow, pointRows, written}
+use Rattle.spending.proofs.Writing.{rows-length}
+use Rattle.engine.specs.declared.Reply.{Reply}
 use Rattle.engine.specs.declared.Reply.the-variants.{Accepted, Refused}
-use Rattle.engine.specs.Rows.{Rows, spendingRows}
 use Rattle.engine.specs.Calls.{areDates, Answers}
-use Rattle.engine.proofs.Made.{points-numbers, points-count}
 use Rattle.engine.proofs.Replies.{too-short, filled}
 
-module _ (dates : List ℕ) (d : areDates dates ≡ true) (from to : ℕ) (book : Book) (out after : List ℕ) (w : after ≡ written (pointRows (spendingBetween book from to)) out) where
-  points : List ℕ
-  points = pointRows (spendingBetween book from to)
+numbers-flat : (xs : List Dated) → numbers (map pointRow xs) ≡ pointRows xs
+unfolding numbers pointRows flatMap
+numbers-flat [] = refl
+numbers-flat (x ∷ xs) = ap (λ (l : List ℕ). pointRow x ++ l) (numbers-flat xs)
 
-  rows : Rows
-  rows = spendingRows from to book
+half : (n m : ℕ) → n ≡ m * 2 → n / 2 ≡ m
+half n m e = omega arith
 
-  pub points-short : length out < length (pointRows (spendingBetween book from to)) → Answers dates (spendingRows from to book) out (Refused 10 0) after
-  unfolding written points rows
-  points-short h =
-      let same : after ≡ out = w ∙ ap (λ (b : Bool). cond b (points ++ drop (length points) out) out) (lt-leb (length points) (length out) h) in
-      subst (λ (l : List ℕ). Answers dates rows out (Refused 10 0) l) (sym same) (too-short dates rows out d (omega (arith, ap length (points-numbers from to book))))
+module _ (dates : List ℕ) (d : areDates dates ≡ true) (xs : List Dated) (out after : List ℕ) (w : after ≡ written (pointRows xs) out) where
+  short : length out < length (pointRows xs) → Answers dates (map pointRow xs) out (Refused 10 0) after
+  unfolding written
+  short h =
+      let rows = pointRows xs in
+      let same : after ≡ out = w ∙ ap (λ (b : Bool). cond b (rows ++ drop (length rows) out) out) (lt-leb (length rows) (length out) h) in
+      subst (λ (l : List ℕ). Answers dates (map pointRow xs) out (Refused 10 0) l) (sym same) (too-short dates (map pointRow xs) out d (omega (arith, ap length (numbers-flat xs))))
 
-  pub points-fit :
-      length (pointRows (spendingBetween book from to)) ≤ length out → (n : ℕ) → n * 2 ≡ length (pointRows (spendingBetween book from to)) →
-      Answers dates (spendingRows from to book) out (Accepted n) after
-  unfolding written points rows
-  points-fit h n e =
-      let same : after ≡ points ++ drop (length points) out = w ∙ ap (λ (b : Bool). cond b (points ++ drop (length points) out) out) (le-leb (length points) (length out) h) in
-      subst (λ (l : List ℕ). Answers dates rows out (Accepted n) l) (sym same)
-      (filled dates rows out d n (omega (arith, points-count from to book)) (length points) (sym (ap length (points-numbers from to book))) h points (sym (points-numbers from to book)))
+  fits : length (pointRows xs) ≤ length out → Answers dates (map pointRow xs) out (Accepted (length (pointRows xs) / 2)) after
+  unfolding written
+  fits h =
+      let rows = pointRows xs in
+      let same : after ≡ rows ++ drop (length rows) out = w ∙ ap (λ (b : Bool). cond b (rows ++ drop (length rows) out) out) (le-leb (length rows) (length out) h) in
+      subst (λ (l : List ℕ). Answers dates (map pointRow xs) out (Accepted (length rows / 2)) l) (sym same)
+      (filled dates (map pointRow xs) out d (length rows / 2) (half (length rows) (length xs) (rows-length xs) ∙ sym (length-map xs pointRow)) (length rows) (sym (ap length (numbers-flat xs))) h rows (sym (numbers-flat xs)))
+
+  -- as many numbers as the points are, and half as many rows
+  pub points-answered : (n : ℕ) → n ≡ length (pointRows xs) → (room : ℕ) → room ≡ length out → (r : Reply) → r ≡ cond (leb n room) (Accepted (n / 2)) (Refused 10 0) → Answers dates (map pointRow xs) out r after
+  points-answered n e room f r g =
+      let answer : ℕ → ℕ → Reply = λ n room. cond (leb n room) (Accepted (n / 2)) (Refused 10 0) in
+      subst (λ (r : Reply). Answers dates (map pointRow xs) out r after)
+      (sym (g ∙ ap (λ (n : ℕ). answer n room) e ∙ ap (answer (length (pointRows xs))) f))
+      (go (decLt (length out) (length (pointRows xs))))
+    where
+      go : Dec (length out < length (pointRows xs)) → Answers dates (map pointRow xs) out (cond (leb (length (pointRows xs)) (length out)) (Accepted (length (pointRows xs) / 2)) (Refused 10 0)) after
+      go (yes l) = rw (lt-leb (length (pointRows xs)) (length out) l) (short l)
+      go (no l) = let h : length (pointRows xs) ≤ length out = omega arith in rw (le-leb (length (pointRows xs)) (length out) h) (fits h)

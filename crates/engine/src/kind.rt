@@ -1,88 +1,55 @@
 // The actual costs of the activities by kind, as rows.
 use crate::Reply;
 use book::layout::Plan;
-use costs::figures::expense_costs;
-use costs::figures::kind_costs;
-use costs::figures::kind_units;
+use costs::figures::kind_columns;
 use fields::OptionalNumber;
-use format::ResourceKind;
 use rows::put_column;
 ghost use mathlib.Core.Path.{_≡_};
 ghost use mathlib.Core.List.{[]};
-ghost use Prim.Native.Nat.{_*_, _<_};
+ghost use Prim.Native.Nat.{_*_};
 ghost use lib.ListN.{length};
 ghost use Rattle.format.specs.Verdict.{content};
 ghost use Rattle.book.specs.Plan.{IsPlanOf};
-ghost use Rattle.model.specs.Costs.{kindCost, kindUnits, expenseCost};
-ghost use Rattle.rows.specs.Rows.{numbers, placed};
-ghost use Rattle.engine.specs.Rows.{actualByKindRows, columnOf};
+ghost use Rattle.costs.specs.Arguments.{Kinds};
+ghost use Rattle.rows.specs.Rows.{numbers};
+ghost use Rattle.engine.specs.Rows.{actualByKindRows};
 ghost use Rattle.engine.specs.Calls.{Answers};
 
-// The cost of one kind of resource, as number `at` of each row.
-fn put_cost(
+// The rows of all activities: the costs of the three kinds of resource and of the expenses, then the units worked and used.
+fn fill_kinds(
     book: &[u8],
     date: OptionalNumber,
     plan: Plan,
-    kind: ResourceKind,
-    at: usize,
-    column: &mut [i64],
+    labor: &mut [i64],
+    nonlabor: &mut [i64],
+    material: &mut [i64],
+    expenses: &mut [i64],
+    worked: &mut [i64],
+    used: &mut [i64],
     out: &mut [u64],
 )
     requires { ⌜ IsPlanOf (now book) date plan ⌝ }
-    requires { ⌜ (at < 6) × (length (now column) ≡ plan .activities .count) × (length (now out) ≡ plan .activities .count * 6) ⌝ }
-    ensures { λ r. ⌜ now (out .exit) ≡ placed 6 at (columnOf (kindCost (content (now (book .entry))) kind) (content (now (book .entry)))) (now (out .entry)) ⌝ }
-{
-    kind_costs(book, date, plan, kind, column);
-    put_column(column, 6, at, out);
-}
-
-// The cost of the expenses.
-fn put_expenses(
-    book: &[u8],
-    date: OptionalNumber,
-    plan: Plan,
-    at: usize,
-    column: &mut [i64],
-    out: &mut [u64],
-)
-    requires { ⌜ IsPlanOf (now book) date plan ⌝ }
-    requires { ⌜ (at < 6) × (length (now column) ≡ plan .activities .count) × (length (now out) ≡ plan .activities .count * 6) ⌝ }
-    ensures { λ r. ⌜ now (out .exit) ≡ placed 6 at (columnOf (expenseCost (content (now (book .entry)))) (content (now (book .entry)))) (now (out .entry)) ⌝ }
-{
-    expense_costs(book, date, plan, column);
-    put_column(column, 6, at, out);
-}
-
-// The units of one kind of resource.
-fn put_units(
-    book: &[u8],
-    date: OptionalNumber,
-    plan: Plan,
-    kind: ResourceKind,
-    at: usize,
-    column: &mut [i64],
-    out: &mut [u64],
-)
-    requires { ⌜ IsPlanOf (now book) date plan ⌝ }
-    requires { ⌜ (at < 6) × (length (now column) ≡ plan .activities .count) × (length (now out) ≡ plan .activities .count * 6) ⌝ }
-    ensures { λ r. ⌜ now (out .exit) ≡ placed 6 at (columnOf (kindUnits (content (now (book .entry))) kind) (content (now (book .entry)))) (now (out .entry)) ⌝ }
-{
-    kind_units(book, date, plan, kind, column);
-    put_column(column, 6, at, out);
-}
-
-// The rows of all activities.
-fn fill_kinds(book: &[u8], date: OptionalNumber, plan: Plan, column: &mut [i64], out: &mut [u64])
-    requires { ⌜ IsPlanOf (now book) date plan ⌝ }
-    requires { ⌜ (length (now column) ≡ plan .activities .count) × (length (now out) ≡ plan .activities .count * 6) ⌝ }
+    requires { ⌜ Kinds (plan .activities .count) (now labor) (now nonlabor) (now material) (now expenses) (now worked) (now used) ⌝ }
+    requires { ⌜ length (now out) ≡ plan .activities .count * 6 ⌝ }
     ensures { λ r. ⌜ now (out .exit) ≡ numbers (actualByKindRows (content (now (book .entry)))) ⌝ }
 {
-    put_cost(book, date, plan, ResourceKind::Labor, 0, column, out);
-    put_cost(book, date, plan, ResourceKind::Nonlabor, 1, column, out);
-    put_cost(book, date, plan, ResourceKind::Material, 2, column, out);
-    put_expenses(book, date, plan, 3, column, out);
-    put_units(book, date, plan, ResourceKind::Labor, 4, column, out);
-    put_units(book, date, plan, ResourceKind::Nonlabor, 5, column, out);
+    kind_columns(
+        book,
+        date,
+        plan,
+        labor,
+        nonlabor,
+        material,
+        expenses,
+        worked,
+        used,
+    );
+    put_column(labor, 6, 0, out);
+    put_column(nonlabor, 6, 1, out);
+    put_column(material, 6, 2, out);
+    put_column(expenses, 6, 3, out);
+    put_column(worked, 6, 4, out);
+    put_column(used, 6, 5, out);
 }
 
 // A row for each activity, where they fit.
@@ -96,7 +63,23 @@ pub fn actual_by_kind_of(book: &[u8], date: OptionalNumber, plan: Plan, out: &mu
     if out.len() < n {
         return Reply::Refused(10, 0);
     }
-    let mut column = [0i64; 500];
-    fill_kinds(book, date, plan, &mut column[..count], &mut out[..n]);
+    let mut labor = [0i64; 500];
+    let mut nonlabor = [0i64; 500];
+    let mut material = [0i64; 500];
+    let mut expenses = [0i64; 500];
+    let mut worked = [0i64; 500];
+    let mut used = [0i64; 500];
+    fill_kinds(
+        book,
+        date,
+        plan,
+        &mut labor[..count],
+        &mut nonlabor[..count],
+        &mut material[..count],
+        &mut expenses[..count],
+        &mut worked[..count],
+        &mut used[..count],
+        &mut out[..n],
+    );
     Reply::Accepted(count as u64)
 }

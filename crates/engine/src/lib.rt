@@ -1,15 +1,18 @@
 // The public calls. Each takes the bytes of a book, what is asked, and lent numbers for its rows; it asks nothing of its caller.
-use book::layout::read_layout;
-use format::Pos;
+use crate::open::Opening;
+use crate::open::open;
 ghost use mathlib.Core.List.{[], _∷_};
 ghost use mathlib.Core.Path.{_≡_};
 ghost use lib.ListN.{length};
-ghost use Rattle.engine.specs.Rows.{costsRows, projectCostRows, actualByKindRows, spendingRows};
+ghost use Rattle.engine.specs.Rows.{costsRows, projectCostRows, actualByKindRows, spendingRows, earnedValueRows, projectEarnedRows, plannedCurveRows};
 ghost use Rattle.engine.specs.Calls.{reply, left};
 
 mod cost;
 mod kind;
+mod open;
+mod own;
 mod points;
+mod value;
 
 // What is answered to a call: accepted, with its count of rows, or the refusal, its number and its place.
 pub enum Reply {
@@ -21,16 +24,14 @@ pub enum Reply {
 pub fn costs(book: &[u8], out: &mut [u64]) -> Reply
     ensures { λ r. ⌜ (r ≡ reply [] costsRows (now (book .entry)) (length (now (out .entry)))) × (now (out .exit) ≡ left [] costsRows (now (book .entry)) (now (out .entry))) ⌝ }
 {
-    let layout = read_layout(book);
-    let end = layout.end;
-    match end {
-        Pos::At(_) => {
-            let header = layout.header;
-            let date = header.date;
-            let plan = layout.plan;
+    let opening = open(book);
+    match opening {
+        Opening::Accepted(opened) => {
+            let date = opened.date;
+            let plan = opened.plan;
             crate::cost::costs_of(book, date, plan, out)
         }
-        Pos::Refused(number, place) => Reply::Refused(number, place),
+        Opening::Refused(number, place) => Reply::Refused(number, place),
     }
 }
 
@@ -38,16 +39,14 @@ pub fn costs(book: &[u8], out: &mut [u64]) -> Reply
 pub fn project_cost(book: &[u8], out: &mut [u64]) -> Reply
     ensures { λ r. ⌜ (r ≡ reply [] projectCostRows (now (book .entry)) (length (now (out .entry)))) × (now (out .exit) ≡ left [] projectCostRows (now (book .entry)) (now (out .entry))) ⌝ }
 {
-    let layout = read_layout(book);
-    let end = layout.end;
-    match end {
-        Pos::At(_) => {
-            let header = layout.header;
-            let date = header.date;
-            let plan = layout.plan;
+    let opening = open(book);
+    match opening {
+        Opening::Accepted(opened) => {
+            let date = opened.date;
+            let plan = opened.plan;
             crate::cost::project_cost_of(book, date, plan, out)
         }
-        Pos::Refused(number, place) => Reply::Refused(number, place),
+        Opening::Refused(number, place) => Reply::Refused(number, place),
     }
 }
 
@@ -55,16 +54,14 @@ pub fn project_cost(book: &[u8], out: &mut [u64]) -> Reply
 pub fn actual_by_kind(book: &[u8], out: &mut [u64]) -> Reply
     ensures { λ r. ⌜ (r ≡ reply [] actualByKindRows (now (book .entry)) (length (now (out .entry)))) × (now (out .exit) ≡ left [] actualByKindRows (now (book .entry)) (now (out .entry))) ⌝ }
 {
-    let layout = read_layout(book);
-    let end = layout.end;
-    match end {
-        Pos::At(_) => {
-            let header = layout.header;
-            let date = header.date;
-            let plan = layout.plan;
+    let opening = open(book);
+    match opening {
+        Opening::Accepted(opened) => {
+            let date = opened.date;
+            let plan = opened.plan;
             crate::kind::actual_by_kind_of(book, date, plan, out)
         }
-        Pos::Refused(number, place) => Reply::Refused(number, place),
+        Opening::Refused(number, place) => Reply::Refused(number, place),
     }
 }
 
@@ -72,15 +69,51 @@ pub fn actual_by_kind(book: &[u8], out: &mut [u64]) -> Reply
 pub fn spending(book: &[u8], from: u64, to: u64, out: &mut [u64]) -> Reply
     ensures { λ r. ⌜ (r ≡ reply (from ∷ to ∷ []) (spendingRows from to) (now (book .entry)) (length (now (out .entry)))) × (now (out .exit) ≡ left (from ∷ to ∷ []) (spendingRows from to) (now (book .entry)) (now (out .entry))) ⌝ }
 {
-    let layout = read_layout(book);
-    let end = layout.end;
-    match end {
-        Pos::At(_) => {
-            let header = layout.header;
-            let date = header.date;
-            let plan = layout.plan;
+    let opening = open(book);
+    match opening {
+        Opening::Accepted(opened) => {
+            let date = opened.date;
+            let plan = opened.plan;
             crate::points::spending_of(book, date, plan, from, to, out)
         }
-        Pos::Refused(number, place) => Reply::Refused(number, place),
+        Opening::Refused(number, place) => Reply::Refused(number, place),
+    }
+}
+
+// Each activity's budget, planned value, earned value, actual and remaining cost at a status date, and what is spent of the budget.
+pub fn earned_value(book: &[u8], at: u64, out: &mut [u64]) -> Reply
+    ensures { λ r. ⌜ (r ≡ reply (at ∷ []) (earnedValueRows at) (now (book .entry)) (length (now (out .entry)))) × (now (out .exit) ≡ left (at ∷ []) (earnedValueRows at) (now (book .entry)) (now (out .entry))) ⌝ }
+{
+    let opening = open(book);
+    match opening {
+        Opening::Accepted(opened) => crate::value::earned_value_of(book, opened, at, out),
+        Opening::Refused(number, place) => Reply::Refused(number, place),
+    }
+}
+
+// The same of the leaves, added up.
+pub fn project_earned(book: &[u8], at: u64, out: &mut [u64]) -> Reply
+    ensures { λ r. ⌜ (r ≡ reply (at ∷ []) (projectEarnedRows at) (now (book .entry)) (length (now (out .entry)))) × (now (out .exit) ≡ left (at ∷ []) (projectEarnedRows at) (now (book .entry)) (now (out .entry))) ⌝ }
+{
+    let opening = open(book);
+    match opening {
+        Opening::Accepted(opened) => crate::value::project_earned_of(book, opened, at, out),
+        Opening::Refused(number, place) => Reply::Refused(number, place),
+    }
+}
+
+// The planned curve between two dates, both included.
+pub fn planned_curve(book: &[u8], from: u64, to: u64, out: &mut [u64]) -> Reply
+    ensures { λ r. ⌜ (r ≡ reply (from ∷ to ∷ []) (plannedCurveRows from to) (now (book .entry)) (length (now (out .entry)))) × (now (out .exit) ≡ left (from ∷ to ∷ []) (plannedCurveRows from to) (now (book .entry)) (now (out .entry))) ⌝ }
+{
+    let opening = open(book);
+    match opening {
+        Opening::Accepted(opened) => {
+            let date = opened.date;
+            let plan = opened.plan;
+            let baseline = opened.baseline;
+            crate::points::planned_curve_of(book, date, plan, baseline, from, to, out)
+        }
+        Opening::Refused(number, place) => Reply::Refused(number, place),
     }
 }

@@ -1,2 +1,3 @@
 pub mod Easter
 pub mod Holiday
+pub mod Year

@@ -1,9 +1,14 @@
 // Brazil's national holidays: fixed dates from the laws that set them, movable ones by their distance from Easter.
 ghost use mathlib.Core.Path.{_≡_};
 ghost use mathlib.Core.Bool.{true};
+ghost use Prim.Native.Nat.{_<_};
+ghost use lib.ListN.{getD};
+ghost use lib.IntN.{ℤ, pos};
+ghost use Rattle.dates.specs.declared.Day.the-variants.{At, Nothing as no-day};
 ghost use Rattle.dates.specs.Date.{isDay};
 ghost use Rattle.holidays.specs.Easter.{easterOf};
-ghost use Rattle.holidays.specs.Holiday.{isFixed, isAwareness, isMovable, byEaster, isHoliday};
+ghost use Rattle.holidays.specs.Holiday.{distances, isFixed, isAwareness, isMovable, byEaster, isHoliday};
+ghost use Rattle.holidays.specs.Year.{moved, awarenessIn, holidaysIn};
 
 // A month and a day of it.
 pub struct MonthDay {
@@ -22,6 +27,9 @@ const FIXED: [MonthDay; 8] = [
     MonthDay { month: 11, day: 15 },
     MonthDay { month: 12, day: 25 },
 ];
+
+// Carnival Monday and Tuesday, Good Friday, Corpus Christi, in days after Easter Sunday.
+const MOVABLE: [i32; 4] = [-48, -47, -2, 60];
 
 fn is_fixed(month: u32, day: u32) -> bool
     ensures { λ r. ⌜ r ≡ isFixed month day ⌝ }
@@ -106,4 +114,40 @@ pub fn is_holiday(days: i32) -> bool
         }
         dates::Date::Nothing => false,
     }
+}
+
+// A movable holiday, from Easter Sunday.
+fn moved_from(sunday: dates::Day, k: usize) -> dates::Day
+    requires { ⌜ (k < 4) × ((e : ℤ) → sunday ≡ At e → isDay e ≡ true) ⌝ }
+    ensures { λ r. ⌜ r ≡ moved sunday (getD distances k (pos 0)) ⌝ }
+{
+    match sunday {
+        dates::Day::At(e) => dates::Day::At(e + MOVABLE[k]),
+        dates::Day::Nothing => dates::Day::Nothing,
+    }
+}
+
+// The 20 November of a year, from 2024 on.
+fn awareness_in(year: i32) -> dates::Day
+    ensures { λ r. ⌜ r ≡ awarenessIn year ⌝ }
+{
+    if 2024 <= year {
+        return dates::from_ymd(year, 11, 20);
+    }
+    dates::Day::Nothing
+}
+
+// The holidays of a year by number, from 0 to 12: the fixed ones, 20 November, the movable ones.
+pub fn holiday_in(year: i32, sunday: dates::Day, k: usize) -> dates::Day
+    requires { ⌜ (sunday ≡ easterOf year) × (k < 13) ⌝ }
+    ensures { λ r. ⌜ r ≡ getD (holidaysIn year) k no-day ⌝ }
+{
+    if k < 8 {
+        let p = FIXED[k];
+        return dates::from_ymd(year, p.month, p.day);
+    }
+    if k == 8 {
+        return awareness_in(year);
+    }
+    moved_from(sunday, k - 9)
 }

@@ -19,7 +19,7 @@ ghost use Rattle.planned.specs.Values.{portionAt, plannedUnder};
 ghost use Rattle.planned.specs.Columns.{Long, Named, UnderWay, Counted, isUnder, Replaced, All, OpenPlanned};
 
 // The span is under way, and its calendar is the one of this number.
-fn is_under(calendar: u64, since: &[u64], calendars: &[u64], i: usize) -> bool
+pub fn is_under(calendar: u64, since: &[u64], calendars: &[u64], i: usize) -> bool
     requires { ⌜ (i < length (now since)) × (i < length (now calendars)) ⌝ }
     ensures { λ r. ⌜ r ≡ isUnder (now (since .entry)) (now (calendars .entry)) calendar i ⌝ }
 {
@@ -30,7 +30,7 @@ fn is_under(calendar: u64, since: &[u64], calendars: &[u64], i: usize) -> bool
 }
 
 // Whether any span is.
-fn is_used(calendar: u64, since: &[u64], calendars: &[u64]) -> bool
+pub fn is_used(calendar: u64, since: &[u64], calendars: &[u64]) -> bool
     requires { ⌜ length (now calendars) ≡ length (now since) ⌝ }
     ensures { λ r. ⌜ r ≡ any (isUnder (now (since .entry)) (now (calendars .entry)) calendar) (span 0 (length (now (since .entry)))) ⌝ }
 {

@@ -54,6 +54,15 @@ fn call(name: &[u8], book: &[u8], first: u64, second: u64, out: &mut [u64]) -> R
     if check::same(name, b"spending") {
         return told(engine::spending(book, first, second, out));
     }
+    if check::same(name, b"earned_value") {
+        return told(engine::earned_value(book, first, out));
+    }
+    if check::same(name, b"project_earned") {
+        return told(engine::project_earned(book, first, out));
+    }
+    if check::same(name, b"planned_curve") {
+        return told(engine::planned_curve(book, first, second, out));
+    }
     Returned { number: 99, at: 0 }
 }
 

@@ -1,8 +1,11 @@
-// Rows of numbers in lent memory, one column at a time.
+// Rows of numbers in lent memory: one column at a time, and a figure that may be absent.
 ghost use mathlib.Core.Path.{_≡_};
-ghost use Prim.Native.Nat.{_*_, _≤_, _<_};
+ghost use Prim.Native.Nat.{_+_, _*_, _≤_, _<_};
 ghost use lib.ListN.{length};
-ghost use Rattle.rows.specs.Rows.{placed};
+ghost use lib.Seq.{sets};
+ghost use Rattle.fields.specs.Optional.{amountOption};
+ghost use Rattle.rows.specs.Rows.{placed, optionalBits};
+use fields::OptionalAmount;
 use money::words::to_bits;
 
 // Puts a column's figures into rows of `width` numbers, each as number `at` of its row.
@@ -17,5 +20,22 @@ pub fn put_column(column: &[i64], width: usize, at: usize, out: &mut [u64])
         out[place] = to_bits(x);
         place += width;
         i += 1;
+    }
+}
+
+// Puts a figure that may be absent, as numbers `at` and `at` + 1.
+pub fn put_optional(figure: OptionalAmount, at: usize, out: &mut [u64])
+    requires { ⌜ at + 1 < length (now out) ⌝ }
+    ensures { λ r. ⌜ now (out .exit) ≡ sets (now (out .entry)) at (optionalBits (amountOption figure)) ⌝ }
+{
+    match figure {
+        OptionalAmount::Absent => {
+            out[at] = 0;
+            out[at + 1] = 0;
+        }
+        OptionalAmount::Present(z) => {
+            out[at] = 1;
+            out[at + 1] = to_bits(z);
+        }
     }
 }

@@ -38,5 +38,5 @@ pub part-is : {A : Type 0} (t : List A) (a : ℕ) → take (length t - a) (drop 
 part-is t a = take-all (length t - a) (drop a t) (omega (arith, length-drop a t))
 
 -- a part in front of a table is no longer than the table
-pub front-room : (n : ℕ) (xs ys : List ℕ) → length xs ≡ n → n ≤ length (xs ++ ys)
+pub front-room : {A : Type 0} (n : ℕ) (xs ys : List A) → length xs ≡ n → n ≤ length (xs ++ ys)
 front-room n xs ys e = omega (arith, length-append xs ys)

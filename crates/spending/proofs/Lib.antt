@@ -9,3 +9,7 @@ pub mod Assigning
 pub mod Within
 pub mod Spanning
 pub mod Pointing
+pub mod MonthDays
+pub mod Grouping
+pub mod Monthly
+pub mod ByMonth

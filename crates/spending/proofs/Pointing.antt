@@ -23,7 +23,7 @@ use Rattle.spending.proofs.Laying.{sum-of, mark-of}
 use Rattle.spending.proofs.Spanning.{keep-alike}
 
 -- of the dates between two, where two functions agree
-map-alike : {B : Type 0} (f g : ℕ → B) (p : ℕ → Bool) (first last : ℕ) → ((d : ℕ) → first ≤ d → d ≤ last → f d ≡ g d)
+pub map-alike : {B : Type 0} (f g : ℕ → B) (p : ℕ → Bool) (first last : ℕ) → ((d : ℕ) → first ≤ d → d ≤ last → f d ≡ g d)
     → map f (keep p (datesBetween first last)) ≡ map g (keep p (datesBetween first last))
 unfolding keep span datesBetween
 map-alike {B} f g p first last h = go first (last + 1 - first) (λ d a b. h d a (omega arith))

@@ -20,18 +20,18 @@ use Rattle.model.specs.declared.Way.the-variants.{Planned}
 use Rattle.model.specs.Lists.{span, consIf, keep}
 use Rattle.model.specs.Lookup.{noCalendar, noActivity, calendarAt}
 use Rattle.model.specs.Calendar.{isWorking}
-use Rattle.model.specs.Days.{datesBetween, workingDays, orAlone, dayList, daysOf}
+use Rattle.model.specs.Days.{datesBetween, workingDays, orAlone, dayList}
 use Rattle.model.specs.Amounts.{isCharged}
 use Rattle.model.specs.Costs.{budgetByDay}
 use Rattle.calendar.specs.Tables.{one, works, ShowsAll}
 use Rattle.calendar.proofs.Parts.{parts-room}
 use Rattle.activities.specs.declared.Stretch.{Stretch}
-use Rattle.activities.specs.Columns.{calendarNumber, firstDate, lastDate}
+use Rattle.activities.specs.Columns.{calendarNumber, firstDate, lastDate, daysIn}
 use Rattle.activities.specs.Stretches as stretches
 use Rattle.activities.proofs.Days.{days-in, days-covered}
 use Rattle.activities.proofs.Plans.{planned, column-is, column-at, plan-calendar, plan-days}
 use Rattle.spending.specs.Listed.{listedBetween, Covers}
-use Rattle.spending.specs.Charges.{AreSpans, rowOf}
+use Rattle.spending.specs.Charges.{AreTabled, AreSpans, rowOf, tabled}
 use Rattle.spending.proofs.Within.{budget-day}
 
 -- dates that two tests agree on
@@ -60,6 +60,57 @@ row-listed {calendars} {base} {end} {days} w k h first last f t =
     ap (orAlone first)
     (keep-alike (works base (drop (k * (end + 1 - base)) days)) (isWorking (getD calendars k noCalendar)) first last (λ d a b. row-works w k h d (omega arith) (omega arith)))
 
+-- columns of spans that all have dates, within a stretch, and the days of the calendars over it
+module _ {s : List ℕ} {date : OptionalNumber} {plan : Plan} (p : IsPlanOf s date plan) {firsts lasts : List ℕ}
+    (firstsLong : length firsts ≡ plan .activities .count)
+    (lastsLong : length lasts ≡ plan .activities .count)
+    (some : (i : ℕ) → i < plan .activities .count → 0 < getD firsts i 0)
+    {known : Stretch} (c : stretches.Covers firsts lasts known) {calendars days : List ℕ}
+    (kept : calendars ≡ map calendarNumber (planned s plan))
+    (shown : ShowsAll (alikeIn layout.calendar s (plan .calendars)) (known .from) (known .to) days)
+    (room : rowOf known (plan .calendars .count) ≤ length days)
+  where
+    calendars-long : length calendars ≡ plan .activities .count
+    calendars-long = omega (arith, ap length (column-is p calendarNumber kept), length-map (content s .activities) calendarNumber, activities-count p)
+
+    -- the rows are of the book's calendars
+    shows : ShowsAll (content s .calendars) (known .from) (known .to) days
+    shows = rw (p .calendars .listed) shown
+
+    module _ (i : ℕ) (h : i < plan .activities .count) where
+      row-room : rowOf known (getD calendars i 0) + (known .to + 1 - known .from) ≤ length days
+      row-room = omega (arith, room, parts-room (known .to + 1 - known .from) (plan-calendar p kept i h))
+
+      span-covers : Covers (known .from) (drop (rowOf known (getD calendars i 0)) days) (getD firsts i 0) (getD lasts i 0)
+      span-covers =
+          record {
+            start = c .begins i (some i h);
+            reach = omega (arith, c .ends i (some i h), row-room, length-drop (rowOf known (getD calendars i 0)) days);
+            latest = omega (arith, c .ends i (some i h), c .most);
+          }
+
+      pub span-listed : tabled known days firsts lasts calendars i ≡ daysIn (calendarAt (content s) (getD calendars i 0)) (getD firsts i 0) (getD lasts i 0)
+      span-listed =
+          row-listed shows (getD calendars i 0) (omega (arith, plan-calendar p kept i h, calendars-count p)) (getD firsts i 0) (getD lasts i 0) (c .begins i (some i h)) (c .ends i (some i h))
+          ∙ sym (days-in (calendarAt (content s) (getD calendars i 0)) (getD firsts i 0) (getD lasts i 0) (some i h))
+
+    inside : (i : ℕ) → i < length firsts → i < plan .activities .count
+    inside i h = omega (arith, firstsLong)
+
+    pub spans-tabled : AreTabled known days firsts lasts calendars
+    spans-tabled =
+        record {
+          ahead = c .ahead;
+          latest = c .most;
+          most = omega (arith, firstsLong, activities-most p);
+          longLasts = omega (arith, firstsLong, lastsLong);
+          longCalendars = omega (arith, firstsLong, calendars-long);
+          few = λ i h. omega (arith, plan-calendar p kept i (inside i h), calendars-most p);
+          row = λ i h. omega (arith, row-room i (inside i h));
+          covers = λ i h. span-covers i (inside i h);
+        }
+
+-- the spans of the planned days
 module _ {s : List ℕ} {date : OptionalNumber} {plan : Plan} (p : IsPlanOf s date plan) {firsts lasts : List ℕ}
     (begins : firsts ≡ map (firstDate (numberOption date) Planned) (planned s plan))
     (ends : lasts ≡ map (lastDate (numberOption date) Planned) (planned s plan))
@@ -93,46 +144,12 @@ module _ {s : List ℕ} {date : OptionalNumber} {plan : Plan} (p : IsPlanOf s da
         (shown : ShowsAll (alikeIn layout.calendar s (plan .calendars)) (known .from) (known .to) days)
         (room : rowOf known (plan .calendars .count) ≤ length days)
       where
-        calendars-long : length calendars ≡ plan .activities .count
-        calendars-long = omega (arith, ap length (column-is p calendarNumber kept), length-map (content s .activities) calendarNumber, activities-count p)
-
-        -- the rows are of the book's calendars
-        shows : ShowsAll (content s .calendars) (known .from) (known .to) days
-        shows = rw (p .calendars .listed) shown
-
-        module _ (i : ℕ) (h : i < length firsts) where
-          inside : i < plan .activities .count
-          inside = omega (arith, firsts-count)
-
-          row-room : rowOf known (getD calendars i 0) + (known .to + 1 - known .from) ≤ length days
-          row-room = omega (arith, room, parts-room (known .to + 1 - known .from) (plan-calendar p kept i inside))
-
-          span-covers : Covers (known .from) (drop (rowOf known (getD calendars i 0)) days) (getD firsts i 0) (getD lasts i 0)
-          span-covers =
-              let some = begins-some i inside in
-              record {
-                start = c .begins i some;
-                reach = omega (arith, c .ends i some, row-room, length-drop (rowOf known (getD calendars i 0)) days);
-                latest = omega (arith, c .ends i some, c .most);
-              }
-
-          span-listed : listedBetween (known .from) (drop (rowOf known (getD calendars i 0)) days) (getD firsts i 0) (getD lasts i 0) ≡ daysOf (content s) Planned i
-          span-listed =
-              let some = begins-some i inside in
-              row-listed shows (getD calendars i 0) (omega (arith, plan-calendar p kept i inside, calendars-count p)) (getD firsts i 0) (getD lasts i 0) (c .begins i some) (c .ends i some)
-              ∙ sym (plan-days p Planned begins ends kept i inside ∙ days-in (calendarAt (content s) (getD calendars i 0)) (getD firsts i 0) (getD lasts i 0) some)
-
         pub spans-are : AreSpans s known days firsts lasts calendars
         spans-are =
             record {
-              ahead = c .ahead;
-              latest = c .most;
+              inTable = spans-tabled p firsts-count lasts-count begins-some c kept shown room;
               all = omega (arith, firsts-count, activities-count p);
-              most = omega (arith, firsts-count, activities-most p);
-              longLasts = omega (arith, firsts-count, lasts-count);
-              longCalendars = omega (arith, firsts-count, calendars-long);
-              few = λ i h. omega (arith, plan-calendar p kept i (inside i h), calendars-most p);
-              row = λ i h. omega (arith, row-room i h);
-              covers = λ i h. span-covers i h;
-              listed = λ i h. span-listed i h;
+              listed = λ i h.
+                  let l : i < plan .activities .count = omega (arith, firsts-count) in
+                  span-listed p firsts-count lasts-count begins-some c kept shown room i l ∙ sym (plan-days p Planned begins ends kept i l);
             }

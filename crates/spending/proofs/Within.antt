@@ -45,12 +45,12 @@ module _ (d : ℕ) {P : Type 0} where
       late true h = refl
       late false h = h
 
-  charged-some : {A : Type 0} (f : A → List Dated) (xs : List A) → ((x : A) → List·Memᴰ x xs → isCharged (f x) d ≡ true → P) → isCharged (flatMap f xs) d ≡ true → P
+  pub charged-some : {A : Type 0} (f : A → List Dated) (xs : List A) → ((x : A) → List·Memᴰ x xs → isCharged (f x) d ≡ true → P) → isCharged (flatMap f xs) d ≡ true → P
   unfolding flatMap isCharged any
   charged-some f [] h e = absurd (true≢false (sym e))
   charged-some f (x ∷ xs) h e = charged-append (f x) (flatMap f xs) (h x (List·Memᴰ·head refl)) (charged-some f xs (λ y m. h y (List·Memᴰ·tail m))) e
 
-  charged-dated : (days : List ℕ) (zs : List ℤ) → (List·Memᴰ d days → P) → isCharged (dated days zs) d ≡ true → P
+  pub charged-dated : (days : List ℕ) (zs : List ℤ) → (List·Memᴰ d days → P) → isCharged (dated days zs) d ≡ true → P
   unfolding isCharged any zipWith
   charged-dated [] zs h e = absurd (true≢false (sym e))
   charged-dated (x ∷ days) [] h e = absurd (true≢false (sym e))

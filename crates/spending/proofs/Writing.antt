@@ -19,7 +19,7 @@ use Rattle.spending.proofs.Dates.{one-first, none-left}
 use Rattle.spending.proofs.Charging.{flatMap-append}
 use Rattle.spending.proofs.Setting.{sets-append, set-front}
 
-rows-length : (xs : List Dated) → length (pointRows xs) ≡ length xs * 2
+pub rows-length : (xs : List Dated) → length (pointRows xs) ≡ length xs * 2
 unfolding pointRows flatMap
 rows-length [] = refl
 rows-length (x ∷ xs) = omega (arith, rows-length xs)
@@ -40,6 +40,12 @@ pub row-written : (out : List ℕ) (j date : ℕ) (z : ℤ) → set (set out j d
 unfolding pointRows flatMap
 row-written out j date z = ap (λ (k : ℕ). set (set out j date) k (bits z)) (add-one j)
 
+-- rows, and those after them
+pub rows-parted : (xs ys : List Dated) (j next : ℕ) → next ≡ j + length (pointRows xs) → (out : List ℕ) → sets out j (pointRows (xs ++ ys)) ≡ sets (sets out j (pointRows xs)) next (pointRows ys)
+unfolding pointRows
+rows-parted xs ys j next n out =
+    ap (sets out j) (flatMap-append pointRow xs ys) ∙ sets-append out (pointRows xs) (pointRows ys) j ∙ sym (ap (λ (k : ℕ). sets (sets out j (pointRows xs)) k (pointRows ys)) n)
+
 module _ (lo hi : ℕ) (sums : List ℤ) (marks : List ℕ) where
   -- the rows from a date on
   abbrev pub rowsFrom : ℕ → List ℕ
@@ -47,14 +53,11 @@ module _ (lo hi : ℕ) (sums : List ℤ) (marks : List ℕ) where
 
   pub rows-next : (date j next : ℕ) (b : Bool) → date ≤ hi → works lo marks date ≡ b → (z : Dated) → z ≡ sumOn lo sums date → next ≡ j + length (pointRows (consIf b z []))
       → (out : List ℕ) → sets out j (rowsFrom date) ≡ sets (sets out j (pointRows (consIf b z []))) next (rowsFrom (date + 1))
-  unfolding pointRows
   rows-next date j next b h e z g n out =
       let rest = map (sumOn lo sums) (workedBetween lo marks (date + 1) hi) in
       ap (λ (ds : List ℕ). sets out j (pointRows (map (sumOn lo sums) ds))) (one-first (works lo marks) date hi b h e)
       ∙ ap (λ (xs : List Dated). sets out j (pointRows xs)) (map-append (sumOn lo sums) (consIf b date []) (workedBetween lo marks (date + 1) hi) ∙ ap (λ (xs : List Dated). xs ++ rest) (one b ∙ sym (ap (λ (x : Dated). consIf b x []) g)))
-      ∙ ap (sets out j) (flatMap-append pointRow (consIf b z []) rest)
-      ∙ sets-append out (pointRows (consIf b z [])) (pointRows rest) j
-      ∙ sym (ap (λ (k : ℕ). sets (sets out j (pointRows (consIf b z []))) k (pointRows rest)) n)
+      ∙ rows-parted (consIf b z []) rest j next n out
     where
       one : (b : Bool) → map (sumOn lo sums) (consIf b date []) ≡ consIf b (sumOn lo sums date) []
       one true = refl

@@ -3,4 +3,5 @@ pub mod Dealt
 pub mod Listed
 pub mod Charges
 pub mod Rows
+pub mod Months
 pub mod Planned

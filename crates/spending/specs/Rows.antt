@@ -6,7 +6,10 @@ use lib.Dec.{leb}
 use lib.IntN.{ℤ, pos}
 use lib.ListN.{length, getD, drop}
 use Rattle.money.specs.Words.{bits}
-use Rattle.model.specs.Amounts.{Dated, on}
+use Rattle.model.specs.Amounts.{Dated, on, points}
+use Rattle.model.specs.Months.{monthStart}
+use Rattle.spending.specs.declared.Grain.{Grain}
+use Rattle.spending.specs.declared.Grain.the-variants.{Day, Month}
 use Rattle.spending.specs.Listed.{workedBetween}
 
 -- the day, then the amount in two's complement of 64 bits
@@ -20,9 +23,22 @@ pointRows xs = flatMap pointRow xs
 unfoldable pub written : List ℕ → List ℕ → List ℕ
 written rows out = cond (leb (length rows) (length out)) (rows ++ drop (length rows) out) out
 
--- the dates between two that are marked, each with its sum, by tables that begin at the first
+-- the dates between two that are marked, each with its sum, by tables that begin at the date `lo`
 abbrev pub sumOn : ℕ → List ℤ → ℕ → Dated
 sumOn lo sums date = on date (getD sums (date - lo) (pos 0))
 
+abbrev pub sumsBetween : ℕ → List ℤ → List ℕ → ℕ → ℕ → List Dated
+sumsBetween lo sums marks first last = map (sumOn lo sums) (workedBetween lo marks first last)
+
 unfoldable pub markedSums : ℕ → ℕ → List ℤ → List ℕ → List Dated
-markedSums lo hi sums marks = map (sumOn lo sums) (workedBetween lo marks lo hi)
+markedSums lo hi sums marks = sumsBetween lo sums marks lo hi
+
+-- ---- by day or by month
+
+abbrev pub inMonth : Dated → Dated
+inMonth x = on (monthStart (x .day)) (x .amount)
+
+-- the points as they are, or those of the months, each from its first day
+unfoldable pub grained : Grain → List Dated → List Dated
+grained Day xs = xs
+grained Month xs = points (map inMonth xs)

@@ -1,4 +1,5 @@
-// The spending by date: what is charged to the budgets, summed by date.
+// The spending: what is charged to the budgets, summed by date or by month.
+use crate::months::write_months;
 use crate::plan::lay_budgets;
 use crate::points::write_points;
 use activities::Stretch;
@@ -20,7 +21,8 @@ ghost use Rattle.model.specs.Amounts.{pointsBetween};
 ghost use Rattle.model.specs.Costs.{budgetByDay, spendingBetween};
 ghost use Rattle.activities.specs.Stretches as stretches;
 ghost use Rattle.spending.specs.Charges.{rowOf};
-ghost use Rattle.spending.specs.Rows.{pointRows, written};
+ghost use Rattle.spending.specs.Listed.{Covers};
+ghost use Rattle.spending.specs.Rows.{pointRows, written, markedSums, grained};
 ghost use Rattle.spending.specs.Planned.{IsSpanned};
 
 pub mod charges;
@@ -28,10 +30,30 @@ pub mod columns;
 pub mod days;
 pub mod deal;
 pub mod expenses;
+pub mod months;
 pub mod plan;
 pub mod points;
 pub mod table;
 pub mod units;
+
+// A row for each date, or one for each month.
+pub enum Grain {
+    Day,
+    Month,
+}
+
+// Writes the rows of the marked dates where they fit, and says how many numbers they are.
+fn write_rows(grain: Grain, lo: u64, hi: u64, sums: &[i64], marks: &[u8], out: &mut [u64]) -> u64
+    requires { ⌜ Covers lo (now marks) lo hi ⌝ }
+    requires { ⌜ hi < lo + length (now sums) ⌝ }
+    ensures { λ r. ⌜ r ≡ length (pointRows (grained grain (markedSums lo hi (now (sums .entry)) (now (marks .entry))))) ⌝ }
+    ensures { λ r. ⌜ now (out .exit) ≡ written (pointRows (grained grain (markedSums lo hi (now (sums .entry)) (now (marks .entry))))) (now (out .entry)) ⌝ }
+{
+    match grain {
+        Grain::Day => write_points(lo, hi, sums, marks, out),
+        Grain::Month => write_months(lo, hi, sums, marks, out),
+    }
+}
 
 // The rows between two dates, by small tables: for the dates, and for the days of all calendars.
 fn small_rows(
@@ -40,6 +62,7 @@ fn small_rows(
     firsts: &[u64],
     lasts: &[u64],
     known: Stretch,
+    grain: Grain,
     lo: u64,
     hi: u64,
     out: &mut [u64],
@@ -47,8 +70,8 @@ fn small_rows(
     requires { ⌜ IsSpanned (now book) plan (now firsts) (now lasts) ⌝ }
     requires { ⌜ stretches.Covers (now firsts) (now lasts) known ⌝ }
     requires { ⌜ (rowOf known (plan .calendars .count) ≤ 4096) × (hi < lo + 1024) × (hi ≤ 47481) ⌝ }
-    ensures { λ r. ⌜ r ≡ length (pointRows (pointsBetween (budgetByDay (content (now (book .entry)))) lo hi)) ⌝ }
-    ensures { λ r. ⌜ now (out .exit) ≡ written (pointRows (pointsBetween (budgetByDay (content (now (book .entry)))) lo hi)) (now (out .entry)) ⌝ }
+    ensures { λ r. ⌜ r ≡ length (pointRows (grained grain (pointsBetween (budgetByDay (content (now (book .entry)))) lo hi))) ⌝ }
+    ensures { λ r. ⌜ now (out .exit) ≡ written (pointRows (grained grain (pointsBetween (budgetByDay (content (now (book .entry)))) lo hi))) (now (out .entry)) ⌝ }
 {
     let mut days = [0u8; 4096];
     let mut sums = [0i64; 1024];
@@ -64,7 +87,7 @@ fn small_rows(
         &mut sums,
         &mut marks,
     );
-    write_points(lo, hi, &sums, &marks, out)
+    write_rows(grain, lo, hi, &sums, &marks, out)
 }
 
 // The same, by tables for all dates of a book and as many calendars as it may have.
@@ -74,6 +97,7 @@ fn full_rows(
     firsts: &[u64],
     lasts: &[u64],
     known: Stretch,
+    grain: Grain,
     lo: u64,
     hi: u64,
     out: &mut [u64],
@@ -81,8 +105,8 @@ fn full_rows(
     requires { ⌜ IsSpanned (now book) plan (now firsts) (now lasts) ⌝ }
     requires { ⌜ stretches.Covers (now firsts) (now lasts) known ⌝ }
     requires { ⌜ (rowOf known (plan .calendars .count) ≤ 584400) × (hi < lo + 36525) × (hi ≤ 47481) ⌝ }
-    ensures { λ r. ⌜ r ≡ length (pointRows (pointsBetween (budgetByDay (content (now (book .entry)))) lo hi)) ⌝ }
-    ensures { λ r. ⌜ now (out .exit) ≡ written (pointRows (pointsBetween (budgetByDay (content (now (book .entry)))) lo hi)) (now (out .entry)) ⌝ }
+    ensures { λ r. ⌜ r ≡ length (pointRows (grained grain (pointsBetween (budgetByDay (content (now (book .entry)))) lo hi))) ⌝ }
+    ensures { λ r. ⌜ now (out .exit) ≡ written (pointRows (grained grain (pointsBetween (budgetByDay (content (now (book .entry)))) lo hi))) (now (out .entry)) ⌝ }
 {
     let mut days = [0u8; 584400];
     let mut sums = [0i64; 36525];
@@ -98,11 +122,11 @@ fn full_rows(
         &mut sums,
         &mut marks,
     );
-    write_points(lo, hi, &sums, &marks, out)
+    write_rows(grain, lo, hi, &sums, &marks, out)
 }
 
 // Whether the small tables have room for so many calendars, each of so many dates.
-fn is_small(calendars: u64, width: u64) -> bool
+pub fn is_small(calendars: u64, width: u64) -> bool
     requires { ⌜ calendars ≤ 16 ⌝ }
     ensures { λ r. ⌜ r ≡ (leb width 1024 && leb (calendars * width) 4096) ⌝ }
 {
@@ -119,6 +143,7 @@ fn rows_between(
     firsts: &[u64],
     lasts: &[u64],
     known: Stretch,
+    grain: Grain,
     lo: u64,
     hi: u64,
     out: &mut [u64],
@@ -126,17 +151,17 @@ fn rows_between(
     requires { ⌜ IsSpanned (now book) plan (now firsts) (now lasts) ⌝ }
     requires { ⌜ stretches.Covers (now firsts) (now lasts) known ⌝ }
     requires { ⌜ (known .from ≤ lo) × (hi ≤ known .to) ⌝ }
-    ensures { λ r. ⌜ r ≡ length (pointRows (pointsBetween (budgetByDay (content (now (book .entry)))) lo hi)) ⌝ }
-    ensures { λ r. ⌜ now (out .exit) ≡ written (pointRows (pointsBetween (budgetByDay (content (now (book .entry)))) lo hi)) (now (out .entry)) ⌝ }
+    ensures { λ r. ⌜ r ≡ length (pointRows (grained grain (pointsBetween (budgetByDay (content (now (book .entry)))) lo hi))) ⌝ }
+    ensures { λ r. ⌜ now (out .exit) ≡ written (pointRows (grained grain (pointsBetween (budgetByDay (content (now (book .entry)))) lo hi))) (now (out .entry)) ⌝ }
 {
     if hi < lo {
         return 0;
     }
     let calendars = plan.calendars;
     if is_small(calendars.count, known.to + 1 - known.from) {
-        return small_rows(book, plan, firsts, lasts, known, lo, hi, out);
+        return small_rows(book, plan, firsts, lasts, known, grain, lo, hi, out);
     }
-    full_rows(book, plan, firsts, lasts, known, lo, hi, out)
+    full_rows(book, plan, firsts, lasts, known, grain, lo, hi, out)
 }
 
 // The rows between two dates, from columns of the spans of the activities.
@@ -145,32 +170,34 @@ fn rows_of(
     plan: Plan,
     firsts: &[u64],
     lasts: &[u64],
+    grain: Grain,
     from: u64,
     to: u64,
     out: &mut [u64],
 ) -> u64
     requires { ⌜ IsSpanned (now book) plan (now firsts) (now lasts) ⌝ }
-    ensures { λ r. ⌜ r ≡ length (pointRows (spendingBetween (content (now (book .entry))) from to)) ⌝ }
-    ensures { λ r. ⌜ now (out .exit) ≡ written (pointRows (spendingBetween (content (now (book .entry))) from to)) (now (out .entry)) ⌝ }
+    ensures { λ r. ⌜ r ≡ length (pointRows (grained grain (spendingBetween (content (now (book .entry))) from to))) ⌝ }
+    ensures { λ r. ⌜ now (out .exit) ≡ written (pointRows (grained grain (spendingBetween (content (now (book .entry))) from to))) (now (out .entry)) ⌝ }
 {
     let known = stretch(firsts, lasts);
     let lo = later(from, known.from);
     let hi = earlier(to, known.to);
-    rows_between(book, plan, firsts, lasts, known, lo, hi, out)
+    rows_between(book, plan, firsts, lasts, known, grain, lo, hi, out)
 }
 
-// The points of the spending between two dates, both included, as rows: written where they fit. How many numbers they are.
+// The points of the spending between two dates, both included, or those of their months, as rows: written where they fit. How many numbers they are.
 pub fn spending_rows(
     book: &[u8],
     date: OptionalNumber,
     plan: Plan,
+    grain: Grain,
     from: u64,
     to: u64,
     out: &mut [u64],
 ) -> u64
     requires { ⌜ IsPlanOf (now book) date plan ⌝ }
-    ensures { λ r. ⌜ r ≡ length (pointRows (spendingBetween (content (now (book .entry))) from to)) ⌝ }
-    ensures { λ r. ⌜ now (out .exit) ≡ written (pointRows (spendingBetween (content (now (book .entry))) from to)) (now (out .entry)) ⌝ }
+    ensures { λ r. ⌜ r ≡ length (pointRows (grained grain (spendingBetween (content (now (book .entry))) from to))) ⌝ }
+    ensures { λ r. ⌜ now (out .exit) ≡ written (pointRows (grained grain (spendingBetween (content (now (book .entry))) from to))) (now (out .entry)) ⌝ }
 {
     let activities = plan.activities;
     let calendars = plan.calendars;
@@ -186,5 +213,5 @@ pub fn spending_rows(
         &mut firsts[..n],
         &mut lasts[..n],
     );
-    rows_of(book, plan, &firsts[..n], &lasts[..n], from, to, out)
+    rows_of(book, plan, &firsts[..n], &lasts[..n], grain, from, to, out)
 }

@@ -22,7 +22,7 @@ fn put(numbers: &mut [u64], i: usize, value: u64)
 }
 
 // Writes the row of a date that is marked, from number j on. Where the next row begins.
-fn put_point(marked: bool, date: u64, sum: i64, j: usize, out: &mut [u64]) -> usize
+pub fn put_point(marked: bool, date: u64, sum: i64, j: usize, out: &mut [u64]) -> usize
     requires { ⌜ j ≤ 1000000 ⌝ }
     ensures { λ r. ⌜ r ≡ j + length (pointRows (consIf marked (on date sum) [])) ⌝ }
     ensures { λ r. ⌜ now (out .exit) ≡ sets (now (out .entry)) j (pointRows (consIf marked (on date sum) [])) ⌝ }

@@ -3,7 +3,7 @@ ghost use mathlib.Core.List.{[], _∷_};
 ghost use mathlib.Core.Path.{_≡_};
 ghost use lib.ListN.{length};
 ghost use Rattle.format.specs.Verdict.{verdict, answerOf, answerNumber, answerPlace};
-ghost use Rattle.engine.specs.Rows.{costsRows, projectCostRows, actualByKindRows, spendingRows};
+ghost use Rattle.engine.specs.Rows.{costsRows, projectCostRows, actualByKindRows, spendingRows, earnedValueRows, projectEarnedRows, plannedCurveRows};
 ghost use Rattle.engine.specs.Calls.{reply, left, replyNumber, replyPlace};
 use engine::Reply;
 use format::Answer;
@@ -89,5 +89,54 @@ pub extern "C" fn surukeva_spending(
     ensures lent { λ r. ⌜ now (out .exit) ≡ left (from ∷ to ∷ []) (spendingRows from to) (now (book .entry)) (now (out .entry)) ⌝ }
 {
     let answer = engine::spending(book, from, to, out);
+    give(answer, at)
+}
+
+// Each activity's earned value.
+#[no_mangle]
+pub extern "C" fn surukeva_earned_value(
+    book: &[u8],
+    date: u64,
+    out: &mut [u64],
+    at: &mut u64,
+) -> u64
+    ensures { λ r. ⌜ r ≡ replyNumber (reply (date ∷ []) (earnedValueRows date) (now (book .entry)) (length (now (out .entry)))) ⌝ }
+    ensures place { λ r. ⌜ now (at .exit) ≡ replyPlace (reply (date ∷ []) (earnedValueRows date) (now (book .entry)) (length (now (out .entry)))) ⌝ }
+    ensures lent { λ r. ⌜ now (out .exit) ≡ left (date ∷ []) (earnedValueRows date) (now (book .entry)) (now (out .entry)) ⌝ }
+{
+    let answer = engine::earned_value(book, date, out);
+    give(answer, at)
+}
+
+// The project's earned value.
+#[no_mangle]
+pub extern "C" fn surukeva_project_earned(
+    book: &[u8],
+    date: u64,
+    out: &mut [u64],
+    at: &mut u64,
+) -> u64
+    ensures { λ r. ⌜ r ≡ replyNumber (reply (date ∷ []) (projectEarnedRows date) (now (book .entry)) (length (now (out .entry)))) ⌝ }
+    ensures place { λ r. ⌜ now (at .exit) ≡ replyPlace (reply (date ∷ []) (projectEarnedRows date) (now (book .entry)) (length (now (out .entry)))) ⌝ }
+    ensures lent { λ r. ⌜ now (out .exit) ≡ left (date ∷ []) (projectEarnedRows date) (now (book .entry)) (now (out .entry)) ⌝ }
+{
+    let answer = engine::project_earned(book, date, out);
+    give(answer, at)
+}
+
+// The planned curve.
+#[no_mangle]
+pub extern "C" fn surukeva_planned_curve(
+    book: &[u8],
+    from: u64,
+    to: u64,
+    out: &mut [u64],
+    at: &mut u64,
+) -> u64
+    ensures { λ r. ⌜ r ≡ replyNumber (reply (from ∷ to ∷ []) (plannedCurveRows from to) (now (book .entry)) (length (now (out .entry)))) ⌝ }
+    ensures place { λ r. ⌜ now (at .exit) ≡ replyPlace (reply (from ∷ to ∷ []) (plannedCurveRows from to) (now (book .entry)) (length (now (out .entry)))) ⌝ }
+    ensures lent { λ r. ⌜ now (out .exit) ≡ left (from ∷ to ∷ []) (plannedCurveRows from to) (now (book .entry)) (now (out .entry)) ⌝ }
+{
+    let answer = engine::planned_curve(book, from, to, out);
     give(answer, at)
 }

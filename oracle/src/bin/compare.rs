@@ -7,14 +7,13 @@
 
 use std::process::ExitCode;
 
-use oracle::book::{Book, decode};
+use oracle::book::decode;
 use oracle::calls::Answer;
-use oracle::damage::{Damage, damaged, mutated};
-use oracle::encode::encode;
 use oracle::generate;
 use oracle::library::{BookCall, book_calls, leaves};
 use oracle::random::Random;
-use oracle::traps::bytes;
+use oracle::sample;
+use oracle::traps;
 
 /// How often each call is asked of a trap book.
 const TRAP_QUESTIONS: usize = 12;
@@ -46,8 +45,7 @@ fn compare_leaves(seed: u64, count: usize) -> usize {
 /// Every call on every trap book, asked near its days and beyond them.
 fn compare_traps(file: &str, seed: u64) -> usize {
     let text = std::fs::read_to_string(file).expect("the trap books can be read");
-    let stored = text.lines().filter_map(|line| line.strip_prefix("book ")?.split_once(' '));
-    let books: Vec<(&str, Vec<u8>)> = stored.map(|(name, digits)| (name, bytes(digits))).collect();
+    let books = traps::books(&text);
     let mut differences = 0;
     for call in book_calls() {
         let mut random = Random::new(seed);
@@ -94,17 +92,9 @@ fn compare_books(seed: u64, books: u64) -> usize {
 
 /// The bytes of a book and what the call is asked, by seed.
 fn question(call: &BookCall, random: &mut Random) -> (Vec<u8>, Vec<u64>) {
-    let book: Book = generate::book("any", random.number()).unwrap_or_default();
-    let asked = generate::asked(call.rust, &book, random);
-    let damage = random.pick(&Damage::ALL);
     // A call is mostly asked of whole books, the verdict mostly of damaged ones.
-    let whole = if call.rust.name == "verdict" { 3 } else { 8 };
-    let bytes = match (random.below(whole), damaged(&book, damage, random)) {
-        (0, Some((bytes, _))) => bytes,
-        (1, _) => mutated(encode(&book), random),
-        _ => encode(&book),
-    };
-    (bytes, asked)
+    let (book, bytes) = sample::drawn(if call.rust.name == "verdict" { 3 } else { 8 }, random);
+    (bytes, generate::asked(call.rust, &book, random))
 }
 
 /// How many numbers to lend where that many are needed.

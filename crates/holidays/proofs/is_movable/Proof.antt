@@ -5,25 +5,14 @@ use mathlib.Core.Bool.{Bool, true, false, _||_, or-false}
 use native.Mathlib.Decide.{ℕ-discrete}
 use lib.Dec.{eqb, lit<}
 use lib.IntN.{ℤ, pos, negsuc}
-use lib.Signed.{leZ, ≤ℤ-refl}
 use mir.Syntax.{w32}
 use mir.Val.{SFits, toZ, ofZ}
 use mir.Facts.{toZ-ofZ}
 use borrow.Author.Tests.{eq-eqb, ne-eqb}
-use Rattle.integer.specs.Linear.{linear}
-use Rattle.gregorian.proofs.Laws.{and-both}
-use Rattle.gregorian.proofs.Counts.{is-true}
 use Rattle.holidays.specs.Holiday.{any, same, isMovable}
+use Rattle.holidays.proofs.Years.{self, equal}
 use Rattle.holidays.proofs.is_movable.Statement.{statement}
 use Rattle.holidays.proofs.is_movable.Tie as tie
-
-self : (z : ℤ) → same z z ≡ true
-unfolding same
-self z = rw (is-true (leZ z z) (≤ℤ-refl z .le))
-
-equal : (z k : ℤ) → same z k ≡ true → z ≡ k
-unfolding same
-equal z k e = let t = and-both (leZ z k) (leZ k z) e in omega linear
 
 same-bits : (z k : ℤ) → SFits w32 z → SFits w32 k → same z k ≡ eqb (ofZ w32 z) (ofZ w32 k)
 same-bits z k f g = go (ℕ-discrete (ofZ w32 z) (ofZ w32 k)) (same z k) refl

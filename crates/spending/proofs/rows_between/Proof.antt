@@ -12,8 +12,9 @@ use Rattle.book.proofs.Plan.{calendars-most}
 use Rattle.model.specs.Amounts.{Dated}
 use Rattle.model.specs.Costs.{budgetByDay}
 use Rattle.model.proofs.Points.{points-none}
-use Rattle.spending.specs.Rows.{pointRows, written}
+use Rattle.spending.specs.Rows.{pointRows, written, grained}
 use Rattle.spending.proofs.Writing.{written-none}
+use Rattle.spending.proofs.Monthly.{grained-none}
 use Rattle.spending.proofs.Pointing.{full-room}
 use Rattle.spending.proofs.rows_between.Statement.{statement}
 use Rattle.spending.proofs.rows_between.Tie as tie
@@ -22,7 +23,7 @@ returns : tie.Need-returns
 unfolding pointRows flatMap
 returns c =
     let s = c .before .before .before .before .before in
-    let none = points-none (budgetByDay (content (s .args .book .now))) (s .args .lo) (s .args .hi) (c .if1 .taken) in (
+    let none = ap (grained (s .args .grain)) (points-none (budgetByDay (content (s .args .book .now))) (s .args .lo) (s .args .hi) (c .if1 .taken)) ∙ grained-none (s .args .grain) in (
       sym (ap (λ (l : List Dated). length (pointRows l)) none),
       written-none (s .args .out .now) ∙ sym (ap (λ (l : List Dated). written (pointRows l) (s .args .out .now)) none),
     )
@@ -64,7 +65,7 @@ small-rows-requires c κs =
     )
 
 same-length : tie.Need-same-length
-same-length c = c .before .before .small-rows .kept .1 .1 .1 .1 .1 .1 .1 .0
+same-length c = c .before .before .small-rows .kept .1 .1 .1 .1 .1 .1 .1 .1 .0
 
 returns-2 : tie.Need-returns-2
 returns-2 c = c .before .before .small-rows .ensures
@@ -86,7 +87,7 @@ full-rows-requires c κs =
     )
 
 same-length-2 : tie.Need-same-length-2
-same-length-2 c = c .before .before .full-rows .kept .1 .1 .1 .1 .1 .1 .1 .0
+same-length-2 c = c .before .before .full-rows .kept .1 .1 .1 .1 .1 .1 .1 .1 .0
 
 returns-3 : tie.Need-returns-3
 returns-3 c = c .before .before .full-rows .ensures

@@ -8,7 +8,7 @@ use Rattle.model.specs.declared.Way.the-variants.{Planned}
 use Rattle.model.specs.Amounts.{Dated, pointsBetween}
 use Rattle.model.specs.Costs.{budgetByDay, spendingBetween}
 use Rattle.activities.proofs.Plans.{plan-spans}
-use Rattle.spending.specs.Rows.{pointRows, written}
+use Rattle.spending.specs.Rows.{pointRows, written, grained}
 use Rattle.spending.proofs.Spanning.{spans-long, budget-within}
 use Rattle.spending.proofs.Pointing.{points-narrow}
 use Rattle.spending.proofs.rows_of.Statement.{statement}
@@ -39,14 +39,14 @@ points c =
     ∙ points-narrow xs (s .args .from) (s .args .to) (known .result .from) (known .result .to) (budget-within (t .is) (t .begins) (t .ends) (known .ensures))
 
 same-length : tie.Need-same-length
-same-length c = c .before .before .rows-between .kept .1 .1 .1 .1 .1 .1 .1 .0
+same-length c = c .before .before .rows-between .kept .1 .1 .1 .1 .1 .1 .1 .1 .0
 
 returns : tie.Need-returns
 returns c =
     let s = c .before .before .before .before .before .before .before .before .before .before .before in
     let is = points (c .before .before .before .before) in (
-      c .before .before .rows-between .ensures .0 ∙ ap (λ (l : List Dated). length (pointRows l)) is,
-      c .before .before .rows-between .ensures .1 ∙ ap (λ (l : List Dated). written (pointRows l) (s .args .out .now)) is,
+      c .before .before .rows-between .ensures .0 ∙ ap (λ (l : List Dated). length (pointRows (grained (s .args .grain) l))) is,
+      c .before .before .rows-between .ensures .1 ∙ ap (λ (l : List Dated). written (pointRows (grained (s .args .grain) l)) (s .args .out .now)) is,
     )
 
 pub rows-of-spec : {M : Type 1} → statement M

@@ -59,7 +59,7 @@ rows-of-requires c κs =
     }
 
 same-length : tie.Need-same-length
-same-length c = c .before .before .rows-of .kept .1 .1 .1 .1 .1 .1 .0
+same-length c = c .before .before .rows-of .kept .1 .1 .1 .1 .1 .1 .1 .0
 
 returns : tie.Need-returns
 returns c = c .before .before .rows-of .ensures

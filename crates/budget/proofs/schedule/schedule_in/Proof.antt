@@ -1,0 +1,57 @@
+-- `schedule_in` meets its contract: the planned costs, rolled up, and of the leaves added up.
+use native.Mathlib.Omega.{arith}
+use mathlib.Core.Path.{ap, _∙_}
+use mir.Syntax.{w64}
+use Rattle.integer.specs.Linear.{back}
+use Rattle.format.specs.Verdict.{content}
+use Rattle.book.proofs.Plan.{activities-most}
+use Rattle.tree.specs.Figures.{rolledUp, unmarkedSum}
+use Rattle.budget.proofs.Costed.{scheduled-rolled, scheduled-whole}
+use borrow.Author.Needs.{needs}
+use Rattle.budget.proofs.schedule.schedule_in.Statement.{statement}
+use Rattle.budget.proofs.schedule.schedule_in.Tie as tie
+
+cost-columns-requires : tie.Need-cost-columns-requires
+cost-columns-requires c κs = search needs
+
+roll-up-requires : tie.Need-roll-up-requires
+roll-up-requires c κs = search needs
+
+leaf-sum-requires : tie.Need-leaf-sum-requires
+leaf-sum-requires c κs =
+    let s = c .before .before .before .before .before .before .before .before .before .before .before .before .before .before .before in
+    omega (arith, c .before .before .before .before .before .before .before .planned .given, s .pre .1 .1 .1 .0 .0, s .pre .1 .1 .0 .1, activities-most (s .pre .0))
+
+same-length : tie.Need-same-length
+same-length c = search needs
+
+same-length-2 : tie.Need-same-length-2
+same-length-2 c = search needs
+
+same-length-3 : tie.Need-same-length-3
+same-length-3 c = search needs
+
+same-length-4 : tie.Need-same-length-4
+same-length-4 c = search needs
+
+returns : tie.Need-returns
+returns c =
+    let s = c .before .before .before .before .before .before .before .before .before .before .before .before .before .before .before .before in
+    let book = content (s .args .book .now) in
+    let own = c .before .before .before .before .before .before .before .before .before .cost-columns .ensures .0 in (
+      c .before .before .before .roll-up .ensures ∙ ap (rolledUp (s .args .parents .now)) own ∙ scheduled-rolled book (s .args .parents .now) (s .pre .1 .0 .0),
+      back w64 (c .leaf-sum .result) (c .leaf-sum .ok) ∙ c .leaf-sum .ensures ∙ ap (unmarkedSum (s .args .marks .now)) own ∙ scheduled-whole book (s .args .marks .now) (s .pre .1 .1 .0 .0),
+    )
+
+pub schedule-in-spec : {M : Type 1} → statement M
+schedule-in-spec =
+    tie.close
+    (tie.spec
+    cost-columns-requires
+    roll-up-requires
+    leaf-sum-requires
+    same-length
+    same-length-2
+    same-length-3
+    same-length-4
+    returns)

@@ -1,0 +1,4 @@
+pub mod Rows
+pub mod Owners
+pub mod Arguments
+pub mod Lines

@@ -1,0 +1,4 @@
+pub mod Running
+pub mod Narrow
+pub mod Budgeted
+pub mod Tabling

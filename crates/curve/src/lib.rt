@@ -1,0 +1,290 @@
+// The planned curve: the running total of what is planned by date, over all leaves.
+use crate::columns::fill_columns;
+use crate::leaves::lay_leaves;
+use crate::totals::write_totals;
+use activities::Stretch;
+use activities::stretches::earlier;
+use activities::stretches::later;
+use activities::stretches::stretch;
+use book::layout::Baseline;
+use book::layout::Plan;
+use book::leaves::leaf_marks;
+use calendar::all::fill_all;
+use fields::OptionalNumber;
+use spending::is_small;
+ghost use mathlib.Core.Path.{_≡_};
+ghost use Prim.Native.Nat.{_+_, _≤_, _<_};
+ghost use lib.ListN.{length};
+ghost use Rattle.format.specs.Verdict.{content};
+ghost use Rattle.book.specs.Plan.{IsPlanOf, IsBaselineOf};
+ghost use Rattle.model.specs.Planned.{plannedCurveBetween};
+ghost use Rattle.activities.specs.Stretches as stretches;
+ghost use Rattle.spending.specs.Charges.{rowOf};
+ghost use Rattle.spending.specs.Rows.{pointRows, written};
+ghost use Rattle.curve.specs.Columns.{AreColumns, AreTables};
+
+pub mod columns;
+pub mod leaves;
+pub mod totals;
+
+// The rows between two dates of a stretch that covers the spans, by lent tables. The total starts at the first date of the stretch.
+fn rows_in(
+    book: &[u8],
+    plan: Plan,
+    leaves: &[u64],
+    budgets: &[i64],
+    firsts: &[u64],
+    lasts: &[u64],
+    calendars: &[u64],
+    known: Stretch,
+    lo: u64,
+    hi: u64,
+    days: &mut [u8],
+    sums: &mut [i64],
+    marks: &mut [u8],
+    out: &mut [u64],
+) -> u64
+    requires { ⌜ AreColumns (now book) plan (now leaves) (now budgets) (now firsts) (now lasts) (now calendars) ⌝ }
+    requires { ⌜ stretches.Covers (now firsts) (now lasts) known ⌝ }
+    requires { ⌜ (known .from ≤ lo) × (lo ≤ hi) × (hi ≤ known .to) ⌝ }
+    requires { ⌜ AreTables known (plan .calendars .count) (now days) (now sums) (now marks) ⌝ }
+    ensures { λ r. ⌜ r ≡ length (pointRows (plannedCurveBetween (content (now (book .entry))) lo hi)) ⌝ }
+    ensures { λ r. ⌜ now (out .exit) ≡ written (pointRows (plannedCurveBetween (content (now (book .entry))) lo hi)) (now (out .entry)) ⌝ }
+{
+    let list = plan.calendars;
+    fill_all(book, list, known.from, known.to, days);
+    lay_leaves(
+        leaves,
+        budgets,
+        firsts,
+        lasts,
+        calendars,
+        days,
+        known,
+        known.from,
+        sums,
+        marks,
+    );
+    write_totals(known.from, lo, hi, marks, sums, out)
+}
+
+// The same, by small tables.
+fn small_rows(
+    book: &[u8],
+    plan: Plan,
+    leaves: &[u64],
+    budgets: &[i64],
+    firsts: &[u64],
+    lasts: &[u64],
+    calendars: &[u64],
+    known: Stretch,
+    lo: u64,
+    hi: u64,
+    out: &mut [u64],
+) -> u64
+    requires { ⌜ AreColumns (now book) plan (now leaves) (now budgets) (now firsts) (now lasts) (now calendars) ⌝ }
+    requires { ⌜ stretches.Covers (now firsts) (now lasts) known ⌝ }
+    requires { ⌜ (known .from ≤ lo) × (lo ≤ hi) × (hi ≤ known .to) ⌝ }
+    requires { ⌜ (rowOf known (plan .calendars .count) ≤ 4096) × (known .to < known .from + 1024) ⌝ }
+    ensures { λ r. ⌜ r ≡ length (pointRows (plannedCurveBetween (content (now (book .entry))) lo hi)) ⌝ }
+    ensures { λ r. ⌜ now (out .exit) ≡ written (pointRows (plannedCurveBetween (content (now (book .entry))) lo hi)) (now (out .entry)) ⌝ }
+{
+    let mut days = [0u8; 4096];
+    let mut sums = [0i64; 1024];
+    let mut marks = [0u8; 1024];
+    rows_in(
+        book,
+        plan,
+        leaves,
+        budgets,
+        firsts,
+        lasts,
+        calendars,
+        known,
+        lo,
+        hi,
+        &mut days,
+        &mut sums,
+        &mut marks,
+        out,
+    )
+}
+
+// The same, by tables for all dates of a book and as many calendars as it may have.
+fn full_rows(
+    book: &[u8],
+    plan: Plan,
+    leaves: &[u64],
+    budgets: &[i64],
+    firsts: &[u64],
+    lasts: &[u64],
+    calendars: &[u64],
+    known: Stretch,
+    lo: u64,
+    hi: u64,
+    out: &mut [u64],
+) -> u64
+    requires { ⌜ AreColumns (now book) plan (now leaves) (now budgets) (now firsts) (now lasts) (now calendars) ⌝ }
+    requires { ⌜ stretches.Covers (now firsts) (now lasts) known ⌝ }
+    requires { ⌜ (known .from ≤ lo) × (lo ≤ hi) × (hi ≤ known .to) ⌝ }
+    requires { ⌜ (rowOf known (plan .calendars .count) ≤ 584400) × (known .to < known .from + 36525) ⌝ }
+    ensures { λ r. ⌜ r ≡ length (pointRows (plannedCurveBetween (content (now (book .entry))) lo hi)) ⌝ }
+    ensures { λ r. ⌜ now (out .exit) ≡ written (pointRows (plannedCurveBetween (content (now (book .entry))) lo hi)) (now (out .entry)) ⌝ }
+{
+    let mut days = [0u8; 584400];
+    let mut sums = [0i64; 36525];
+    let mut marks = [0u8; 36525];
+    rows_in(
+        book,
+        plan,
+        leaves,
+        budgets,
+        firsts,
+        lasts,
+        calendars,
+        known,
+        lo,
+        hi,
+        &mut days,
+        &mut sums,
+        &mut marks,
+        out,
+    )
+}
+
+// The same, by tables that are large enough; none where the first date is later.
+fn rows_between(
+    book: &[u8],
+    plan: Plan,
+    leaves: &[u64],
+    budgets: &[i64],
+    firsts: &[u64],
+    lasts: &[u64],
+    calendars: &[u64],
+    known: Stretch,
+    lo: u64,
+    hi: u64,
+    out: &mut [u64],
+) -> u64
+    requires { ⌜ AreColumns (now book) plan (now leaves) (now budgets) (now firsts) (now lasts) (now calendars) ⌝ }
+    requires { ⌜ stretches.Covers (now firsts) (now lasts) known ⌝ }
+    requires { ⌜ (known .from ≤ lo) × (hi ≤ known .to) ⌝ }
+    ensures { λ r. ⌜ r ≡ length (pointRows (plannedCurveBetween (content (now (book .entry))) lo hi)) ⌝ }
+    ensures { λ r. ⌜ now (out .exit) ≡ written (pointRows (plannedCurveBetween (content (now (book .entry))) lo hi)) (now (out .entry)) ⌝ }
+{
+    if hi < lo {
+        return 0;
+    }
+    let list = plan.calendars;
+    if is_small(list.count, known.to + 1 - known.from) {
+        return small_rows(
+            book,
+            plan,
+            leaves,
+            budgets,
+            firsts,
+            lasts,
+            calendars,
+            known,
+            lo,
+            hi,
+            out,
+        );
+    }
+    full_rows(
+        book,
+        plan,
+        leaves,
+        budgets,
+        firsts,
+        lasts,
+        calendars,
+        known,
+        lo,
+        hi,
+        out,
+    )
+}
+
+// The rows between two dates, from columns of the leaves' budgets, the listed spans and the calendars.
+fn rows_of(
+    book: &[u8],
+    plan: Plan,
+    leaves: &[u64],
+    budgets: &[i64],
+    firsts: &[u64],
+    lasts: &[u64],
+    calendars: &[u64],
+    from: u64,
+    to: u64,
+    out: &mut [u64],
+) -> u64
+    requires { ⌜ AreColumns (now book) plan (now leaves) (now budgets) (now firsts) (now lasts) (now calendars) ⌝ }
+    ensures { λ r. ⌜ r ≡ length (pointRows (plannedCurveBetween (content (now (book .entry))) from to)) ⌝ }
+    ensures { λ r. ⌜ now (out .exit) ≡ written (pointRows (plannedCurveBetween (content (now (book .entry))) from to)) (now (out .entry)) ⌝ }
+{
+    let known = stretch(firsts, lasts);
+    let lo = later(from, known.from);
+    let hi = earlier(to, known.to);
+    rows_between(
+        book,
+        plan,
+        leaves,
+        budgets,
+        firsts,
+        lasts,
+        calendars,
+        known,
+        lo,
+        hi,
+        out,
+    )
+}
+
+// The points of the planned curve between two dates, both included, as rows: written where they fit. How many numbers they are.
+pub fn curve_rows(
+    book: &[u8],
+    date: OptionalNumber,
+    plan: Plan,
+    baseline: Baseline,
+    from: u64,
+    to: u64,
+    out: &mut [u64],
+) -> u64
+    requires { ⌜ IsPlanOf (now book) date plan ⌝ }
+    requires { ⌜ IsBaselineOf (now book) plan baseline ⌝ }
+    ensures { λ r. ⌜ r ≡ length (pointRows (plannedCurveBetween (content (now (book .entry))) from to)) ⌝ }
+    ensures { λ r. ⌜ now (out .exit) ≡ written (pointRows (plannedCurveBetween (content (now (book .entry))) from to)) (now (out .entry)) ⌝ }
+{
+    let activities = plan.activities;
+    let calendars = plan.calendars;
+    let n = activities.count as usize;
+    let leaves = leaf_marks(book, activities, calendars.count);
+    let mut budgets = [0i64; 500];
+    let mut firsts = [0u64; 500];
+    let mut lasts = [0u64; 500];
+    let mut kept = [0u64; 500];
+    fill_columns(
+        book,
+        date,
+        plan,
+        baseline,
+        &leaves,
+        &mut budgets[..n],
+        &mut firsts[..n],
+        &mut lasts[..n],
+        &mut kept[..n],
+    );
+    rows_of(
+        book,
+        plan,
+        &leaves,
+        &budgets[..n],
+        &firsts[..n],
+        &lasts[..n],
+        &kept[..n],
+        from,
+        to,
+        out,
+    )
+}

@@ -1,0 +1,44 @@
+-- `earned_value` meets its contract: a refused book, or what is answered to an opened one.
+use borrow.Author.Needs.{needs}
+use mathlib.Core.List.{[], _∷_}
+use Rattle.engine.specs.Rows.{earnedValueRows}
+use Rattle.engine.proofs.Replies.{opened-is, book-refused, book-accepted}
+use Rattle.engine.proofs.earned_value.Statement.{statement}
+use Rattle.engine.proofs.earned_value.Tie as tie
+
+open-requires : tie.Need-open-requires
+open-requires c κs = search needs
+
+enum-known-opening : tie.Need-enum-known-opening
+enum-known-opening c = search needs
+
+earned-value-of-requires : tie.Need-earned-value-of-requires
+earned-value-of-requires c κs = opened-is (c .before .before .before .before .«open» .ensures) (c .before .before .opening .given .1)
+
+enum-known-opening-2 : tie.Need-enum-known-opening-2
+enum-known-opening-2 c = search needs
+
+same-length : tie.Need-same-length
+same-length c = search needs
+
+returns : tie.Need-returns
+returns c =
+    let s = c .before .before .before .before .before .before .before .before .before .before in
+    book-accepted (s .args .at ∷ []) (earnedValueRows (s .args .at)) (s .args .book .now) (s .args .out .now) (opened-is (c .before .before .before .before .before .before .before .«open» .ensures) (c .before .before .before .before .before .opening .given .1)) (c .before .before .earned-value-of .ensures)
+
+returns-2 : tie.Need-returns-2
+returns-2 c =
+    let s = c .before .before .before .before .before .before in
+    book-refused (s .args .at ∷ []) (earnedValueRows (s .args .at)) (s .args .book .now) (s .args .out .now) (c .before .before .before .«open» .ensures) (c .before .opening2 .given .1)
+
+pub earned-value-spec : {M : Type 1} → statement M
+earned-value-spec =
+    tie.close
+    (tie.spec
+    open-requires
+    enum-known-opening
+    earned-value-of-requires
+    enum-known-opening-2
+    same-length
+    returns
+    returns-2)

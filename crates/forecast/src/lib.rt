@@ -1,0 +1,129 @@
+// How the work done performs, and what the work still to do will cost, from the figures of earned value.
+use floats::Index;
+use floats::at_rate;
+use floats::bits;
+use floats::both;
+use floats::ratio;
+use format::EtcTechnique;
+use model::Earned;
+use model::Indices;
+use money::sums::saturating_add;
+use money::sums::saturating_sub;
+use money::words::to_bits;
+ghost use mathlib.Core.Path.{_≡_};
+ghost use Prim.Native.Nat.{_+_, _<_};
+ghost use lib.ListN.{length};
+ghost use lib.Seq.{sets};
+ghost use Rattle.model.specs.Forecast as definition;
+ghost use Rattle.forecast.specs.Rows.{estimatesRow, indexRow, forecastRow};
+
+// The budget still to earn.
+fn to_earn(e: Earned) -> i64
+    ensures { λ r. ⌜ r ≡ definition.toEarn e ⌝ }
+{
+    saturating_sub(e.budget, e.earned)
+}
+
+// The cost performance index.
+fn cpi(e: Earned) -> Index
+    ensures { λ r. ⌜ r ≡ definition.cpi e ⌝ }
+{
+    ratio(e.earned, e.actual)
+}
+
+// The schedule performance index.
+fn spi(e: Earned) -> Index
+    ensures { λ r. ⌜ r ≡ definition.spi e ⌝ }
+{
+    ratio(e.earned, e.planned)
+}
+
+// The to-complete performance index.
+fn tcpi(e: Earned) -> Index
+    ensures { λ r. ⌜ r ≡ definition.tcpi e ⌝ }
+{
+    let left = to_earn(e);
+    let unspent = saturating_sub(e.budget, e.actual);
+    ratio(left, unspent)
+}
+
+// The three indices.
+pub fn indices(e: Earned) -> Indices
+    ensures { λ r. ⌜ r ≡ definition.indicesOf e ⌝ }
+{
+    let c = cpi(e);
+    let s = spi(e);
+    let t = tcpi(e);
+    Indices {
+        cpi: c.value,
+        hasCpi: c.present,
+        spi: s.value,
+        hasSpi: s.present,
+        tcpi: t.value,
+        hasTcpi: t.present,
+    }
+}
+
+// The estimate to complete.
+pub fn etc(technique: EtcTechnique, e: Earned) -> i64
+    ensures { λ r. ⌜ r ≡ definition.etc technique e ⌝ }
+{
+    match technique {
+        EtcTechnique::Remaining => e.remaining,
+        EtcTechnique::Planned => to_earn(e),
+        EtcTechnique::Cpi => at_rate(to_earn(e), cpi(e)),
+        EtcTechnique::CpiSpi => at_rate(to_earn(e), both(cpi(e), spi(e))),
+    }
+}
+
+// The estimate at completion.
+pub fn eac(technique: EtcTechnique, e: Earned) -> i64
+    ensures { λ r. ⌜ r ≡ definition.eac technique e ⌝ }
+{
+    saturating_add(e.actual, etc(technique, e))
+}
+
+// The variance at completion.
+pub fn vac(technique: EtcTechnique, e: Earned) -> i64
+    ensures { λ r. ⌜ r ≡ definition.vac technique e ⌝ }
+{
+    saturating_sub(e.budget, eac(technique, e))
+}
+
+// The estimates, from the first number on.
+fn put_estimates(technique: EtcTechnique, e: Earned, out: &mut [u64])
+    requires { ⌜ length (now out) ≡ 9 ⌝ }
+    ensures { λ r. ⌜ now (out .exit) ≡ sets (now (out .entry)) 0 (estimatesRow technique e) ⌝ }
+{
+    let left = etc(technique, e);
+    let total = saturating_add(e.actual, left);
+    let variance = saturating_sub(e.budget, total);
+    out[0] = to_bits(left);
+    out[1] = to_bits(total);
+    out[2] = to_bits(variance);
+}
+
+// An index, from number `at` on.
+fn put_index(x: Index, at: usize, out: &mut [u64])
+    requires { ⌜ at + 1 < length (now out) ⌝ }
+    ensures { λ r. ⌜ now (out .exit) ≡ sets (now (out .entry)) at (indexRow x) ⌝ }
+{
+    if x.present {
+        out[at] = 1;
+        out[at + 1] = bits(x.value);
+        return;
+    }
+    out[at] = 0;
+    out[at + 1] = 0;
+}
+
+// The forecast and the indices as a row.
+pub fn put_forecast(technique: EtcTechnique, e: Earned, out: &mut [u64])
+    requires { ⌜ length (now out) ≡ 9 ⌝ }
+    ensures { λ r. ⌜ now (out .exit) ≡ forecastRow technique e ⌝ }
+{
+    put_estimates(technique, e, out);
+    put_index(cpi(e), 3, out);
+    put_index(spi(e), 5, out);
+    put_index(tcpi(e), 7, out);
+}

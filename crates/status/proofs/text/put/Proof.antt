@@ -1,0 +1,33 @@
+-- `put` meets its contract: what is copied stands behind the first bytes. Assumes nothing.
+use Rattle.status.proofs.Spelling.{behind}
+use borrow.Author.Needs.{needs}
+use Rattle.status.proofs.text.put.Statement.{statement}
+use Rattle.status.proofs.text.put.Tie as tie
+
+sub-copy : tie.Need-sub-copy
+sub-copy c = search needs
+
+part-copy-start : tie.Need-part-copy-start
+part-copy-start c = search needs
+
+part-copy-end : tie.Need-part-copy-end
+part-copy-end c = search needs
+
+copy-requires : tie.Need-copy-requires
+copy-requires c κs = search needs
+
+add-result : tie.Need-add-result
+add-result c = search needs
+
+same-length : tie.Need-same-length
+same-length c = search needs
+
+returns : tie.Need-returns
+returns c =
+    let s = c .before .before .before .before .before .before in
+    (search needs, behind (s .args .out .now) (s .args .at) (s .args .bytes .now) _ _ _ (search needs) (c .before .before .copy .ensures .1))
+
+pub put-spec : {M : Type 1} → statement M
+put-spec =
+    tie.close
+    (tie.spec sub-copy part-copy-start part-copy-end copy-requires add-result same-length returns)

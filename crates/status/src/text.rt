@@ -1,0 +1,88 @@
+// Lines of text, put into a buffer one behind the other. What a function puts stands behind the first `at` bytes, up to the
+// place that it returns.
+ghost use mathlib.Core.List.{[], _∷_, _++_};
+ghost use mathlib.Core.Path.{_≡_};
+ghost use Prim.Native.Nat.{_+_, _*_, _≤_};
+ghost use lib.ListN.{length, take};
+ghost use Rattle.money.specs.Words.{ofBits};
+ghost use Rattle.status.specs.Text.{decimal, signed, figures, line};
+
+// Puts bytes.
+fn put(out: &mut [u8], at: usize, bytes: &[u8]) -> usize
+    requires { ⌜ at + length (now bytes) ≤ length (now out) ⌝ }
+    ensures { λ r. ⌜ r ≡ at + length (now (bytes .entry)) ⌝ }
+    ensures { λ r. ⌜ take r (now (out .exit)) ≡ take at (now (out .entry)) ++ now (bytes .entry) ⌝ }
+{
+    bytes::copy(bytes, &mut out[at..]);
+    at + bytes.len()
+}
+
+// Puts a number in decimal digits.
+fn put_decimal(out: &mut [u8], at: usize, n: u64) -> usize
+    requires { ⌜ at + 20 ≤ length (now out) ⌝ }
+    ensures { λ r. ⌜ r ≤ at + 20 ⌝ }
+    ensures { λ r. ⌜ take r (now (out .exit)) ≡ take at (now (out .entry)) ++ decimal n ⌝ }
+{
+    let mut digits = [0u8; 20];
+    let count = io::decimal(n, &mut digits);
+    put(out, at, &digits[..count])
+}
+
+// Puts a number in two's complement, with its sign.
+fn put_signed(out: &mut [u8], at: usize, bits: u64) -> usize
+    requires { ⌜ at + 21 ≤ length (now out) ⌝ }
+    ensures { λ r. ⌜ r ≤ at + 21 ⌝ }
+    ensures { λ r. ⌜ take r (now (out .exit)) ≡ take at (now (out .entry)) ++ signed (ofBits bits) ⌝ }
+{
+    if bits < 9223372036854775808 {
+        return put_decimal(out, at, bits);
+    }
+    let behind = put(out, at, b"-");
+    put_decimal(out, behind, 18446744073709551615 - bits + 1)
+}
+
+// Puts numbers in two's complement, each behind a blank.
+fn put_figures(out: &mut [u8], at: usize, numbers: &[u64]) -> usize
+    requires { ⌜ at + 22 * length (now numbers) ≤ length (now out) ⌝ }
+    ensures { λ r. ⌜ r ≤ at + 22 * length (now (numbers .entry)) ⌝ }
+    ensures { λ r. ⌜ take r (now (out .exit)) ≡ take at (now (out .entry)) ++ figures (now (numbers .entry)) ⌝ }
+{
+    let mut end = at;
+    let mut i: usize = 0;
+    while i < numbers.len() {
+        let behind = put(out, end, b" ");
+        end = put_signed(out, behind, numbers[i]);
+        i += 1;
+    }
+    end
+}
+
+// Puts the figures of a line behind what leads it, and the line's end.
+fn put_rest(out: &mut [u8], at: usize, numbers: &[u64]) -> usize
+    requires { ⌜ at + 22 * length (now numbers) + 1 ≤ length (now out) ⌝ }
+    ensures { λ r. ⌜ r ≤ at + 22 * length (now (numbers .entry)) + 1 ⌝ }
+    ensures { λ r. ⌜ take r (now (out .exit)) ≡ take at (now (out .entry)) ++ line [] (now (numbers .entry)) ⌝ }
+{
+    let end = put_figures(out, at, numbers);
+    put(out, end, b"\n")
+}
+
+// Puts a line that a word leads.
+pub fn put_line(out: &mut [u8], at: usize, word: &[u8], numbers: &[u64]) -> usize
+    requires { ⌜ at + length (now word) + 22 * length (now numbers) + 1 ≤ length (now out) ⌝ }
+    ensures { λ r. ⌜ r ≤ at + length (now (word .entry)) + 22 * length (now (numbers .entry)) + 1 ⌝ }
+    ensures { λ r. ⌜ take r (now (out .exit)) ≡ take at (now (out .entry)) ++ line (now (word .entry)) (now (numbers .entry)) ⌝ }
+{
+    let end = put(out, at, word);
+    put_rest(out, end, numbers)
+}
+
+// Puts a line that a number leads.
+pub fn put_row(out: &mut [u8], at: usize, first: u64, numbers: &[u64]) -> usize
+    requires { ⌜ at + 22 * length (now numbers) + 21 ≤ length (now out) ⌝ }
+    ensures { λ r. ⌜ r ≤ at + 22 * length (now (numbers .entry)) + 21 ⌝ }
+    ensures { λ r. ⌜ take r (now (out .exit)) ≡ take at (now (out .entry)) ++ line (decimal first) (now (numbers .entry)) ⌝ }
+{
+    let end = put_decimal(out, at, first);
+    put_rest(out, end, numbers)
+}

@@ -1,0 +1,5 @@
+pub mod Lasting
+pub mod Counting
+pub mod Reaching
+pub mod Rolled
+pub mod Made
