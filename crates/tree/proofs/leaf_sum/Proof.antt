@@ -4,7 +4,7 @@ use mathlib.Core.Path.{_≡_, sym, ap, _∙_}
 use mathlib.Core.Logic.{⊎-elim}
 use native.Mathlib.Omega.{arith}
 use lib.IntN.{ℤ}
-use lib.ListN.{length}
+use lib.ListN.{length, getD}
 use mir.Syntax.{w64}
 use mir.Val.{toZ}
 use borrow.Author.Needs.{needs}
@@ -56,13 +56,13 @@ loop-again c =
       omega arith,
       ap (λ (z : ℤ). sumFrom marks figures z (l .i + 1))
           (ap (toZ w64) (w .3) ∙ back w64 (w .2 .result) (w .2 .ok) ∙ w .2 .ensures ∙ ap (saturatingAdd (toZ w64 (l .sum))) (back w64 (figureOf figures (l .i)) (w .1 .given)))
-          ∙ sym (sum-taken marks figures (toZ w64 (l .sum)) (l .i) (omega arith) (eq-eqb _ _ (w .0 .taken)))
+          ∙ sym (sum-taken marks figures (toZ w64 (l .sum)) (l .i) (omega arith) (eq-eqb (getD marks (l .i) 0) 0 (omega (arith, w .0 .taken))))
           ∙ l .inv .1,
     ))
     (λ w. (
       omega arith,
       ap (λ (b : ℕ). sumFrom marks figures (toZ w64 b) (l .i + 1)) (w .1)
-          ∙ sym (sum-passed marks figures (toZ w64 (l .sum)) (l .i) (omega arith) (ne-eqb _ _ (w .0 .left)))
+          ∙ sym (sum-passed marks figures (toZ w64 (l .sum)) (l .i) (omega arith) (ne-eqb (getD marks (l .i) 0) 0 (λ e. omega (arith, e, w .0 .left))))
           ∙ l .inv .1,
     ))
     (c .if1 .came)
