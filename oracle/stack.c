@@ -9,7 +9,7 @@
 
 #include "surukeva.h"
 
-enum { STACK = 8 << 20, PAINT = 0xa5, LONGEST = 1 << 20, FIRST_DAY = 10957, LAST_DAY = 47481 };
+enum { STACK = 8 << 20, PAINT = 0xa5, LONGEST = 1 << 20, FIRST_DAY = 10957, LAST_DAY = 47481, ACTIVITY = 0 };
 
 static uint8_t book[LONGEST];
 static size_t length;
@@ -20,45 +20,32 @@ static void *nothing(void *unused) { return unused; }
 static uint64_t out[73050];
 static const size_t lent = sizeof out / sizeof *out;
 
-static void *verdict(void *unused) {
-    surukeva_verdict(book, length, &at);
-    return unused;
-}
+/* A thread that makes a call, by how many values the call is asked. */
+#define THREAD(call, ...)                           \
+    static void *call(void *unused) {               \
+        surukeva_##call(book, length, __VA_ARGS__); \
+        return unused;                              \
+    }
+#define PLAIN(call) THREAD(call, out, lent, &at)
+#define ONE(call, value) THREAD(call, value, out, lent, &at)
+#define TWO(call, first, second) THREAD(call, first, second, out, lent, &at)
 
-static void *costs(void *unused) {
-    surukeva_costs(book, length, out, lent, &at);
-    return unused;
-}
-
-static void *project_cost(void *unused) {
-    surukeva_project_cost(book, length, out, lent, &at);
-    return unused;
-}
-
-static void *actual_by_kind(void *unused) {
-    surukeva_actual_by_kind(book, length, out, lent, &at);
-    return unused;
-}
-
-static void *spending(void *unused) {
-    surukeva_spending(book, length, FIRST_DAY, LAST_DAY, out, lent, &at);
-    return unused;
-}
-
-static void *earned_value(void *unused) {
-    surukeva_earned_value(book, length, LAST_DAY, out, lent, &at);
-    return unused;
-}
-
-static void *project_earned(void *unused) {
-    surukeva_project_earned(book, length, LAST_DAY, out, lent, &at);
-    return unused;
-}
-
-static void *planned_curve(void *unused) {
-    surukeva_planned_curve(book, length, FIRST_DAY, LAST_DAY, out, lent, &at);
-    return unused;
-}
+THREAD(verdict, &at)
+PLAIN(costs)
+PLAIN(project_cost)
+PLAIN(actual_by_kind)
+TWO(spending, FIRST_DAY, LAST_DAY)
+PLAIN(spending_by_month)
+ONE(earned_value, LAST_DAY)
+ONE(project_earned, LAST_DAY)
+TWO(planned_curve, FIRST_DAY, LAST_DAY)
+ONE(performance, ACTIVITY)
+TWO(indices, ACTIVITY, LAST_DAY)
+ONE(project_indices, LAST_DAY)
+PLAIN(period_points)
+PLAIN(variances)
+PLAIN(budget)
+PLAIN(funding)
 
 /* The bytes of its stack that a thread wrote to. */
 static size_t used(void *(*call)(void *)) {
@@ -80,15 +67,25 @@ static void report(const char *name, void *(*call)(void *)) {
     printf("%s: %zu bytes of stack\n", name, used(call) - used(nothing));
 }
 
+#define REPORT(call) report(#call, call)
+
 int main(void) {
     length = fread(book, 1, LONGEST, stdin);
-    report("verdict", verdict);
-    report("costs", costs);
-    report("project_cost", project_cost);
-    report("actual_by_kind", actual_by_kind);
-    report("spending", spending);
-    report("earned_value", earned_value);
-    report("project_earned", project_earned);
-    report("planned_curve", planned_curve);
+    REPORT(verdict);
+    REPORT(costs);
+    REPORT(project_cost);
+    REPORT(actual_by_kind);
+    REPORT(spending);
+    REPORT(spending_by_month);
+    REPORT(earned_value);
+    REPORT(project_earned);
+    REPORT(planned_curve);
+    REPORT(performance);
+    REPORT(indices);
+    REPORT(project_indices);
+    REPORT(period_points);
+    REPORT(variances);
+    REPORT(budget);
+    REPORT(funding);
     return 0;
 }

@@ -1,21 +1,11 @@
 //! Calls over the trap books and over short made ones, with what they leave in lent memory, for the replay.
 
-use crate::book::{FIRST_DAY, LAST_DAY, decode};
+use crate::book::{Book, FIRST_DAY, LAST_DAY, decode};
 use crate::calls::{Asked, CALLS, Call};
 use crate::encode::encode;
 use crate::generate;
 use crate::traps;
 
-/// The calls that the replay knows.
-const REPLAYED: [&str; 7] = [
-    "costs",
-    "project_cost",
-    "actual_by_kind",
-    "spending",
-    "earned_value",
-    "project_earned",
-    "planned_curve",
-];
 /// A longer lent slice is left out.
 const MOST_LENT: usize = 600;
 /// How many books are made beside the trap books, and how long they may be.
@@ -36,33 +26,35 @@ fn line(call: &Call, bytes: &[u8], asked: &[u64], lent: usize) -> String {
     format!("call {} {digits}{} {lent} = {number} {at}{}\n", call.name, words(asked), words(&out))
 }
 
-/// The early start of a book's first activity.
-fn first_start(bytes: &[u8]) -> u64 {
-    let first = decode(bytes).ok().and_then(|book| book.activities.first().map(|a| a.early_start));
-    first.unwrap_or(20_000)
-}
-
-/// What a call is asked: all days or one, a part of them, and days that are refused.
-fn questions(call: &Call, bytes: &[u8]) -> Vec<Vec<u64>> {
+/// What a call is asked of a book: what it has, a part of it, and what is refused, alone and together.
+fn questions(call: &Call, book: &Book) -> Vec<Vec<u64>> {
+    let day = book.activities.first().map_or(20_000, |activity| activity.early_start);
+    let beyond = if day.is_multiple_of(2) { LAST_DAY + 1 } else { FIRST_DAY - 1 };
+    let count = book.activities.len() as u64;
+    let last = count.saturating_sub(1);
     match call.asked {
-        [Asked::Date, Asked::Date] => {
-            let day = first_start(bytes);
-            let ends = [(FIRST_DAY - 1, LAST_DAY), (FIRST_DAY, LAST_DAY + 1)];
-            let parts = [(day, day), (day + 1, day + 3), (day + 1, day)];
-            [(FIRST_DAY, LAST_DAY)]
-                .iter()
-                .chain(&parts)
-                .chain(&ends)
-                .map(|(from, to)| vec![*from, *to])
-                .collect()
-        }
-        [Asked::Date] => {
-            let day = first_start(bytes) + 1;
-            let beyond = if day % 2 == 0 { FIRST_DAY - 1 } else { LAST_DAY + 1 };
-            [day, LAST_DAY, beyond].iter().map(|day| vec![*day]).collect()
+        [Asked::Date, Asked::Date] => each(&[
+            [FIRST_DAY, LAST_DAY],
+            [day, day],
+            [day + 1, day + 3],
+            [day + 1, day],
+            [FIRST_DAY - 1, LAST_DAY],
+            [FIRST_DAY, LAST_DAY + 1],
+        ]),
+        [Asked::Date] => each(&[[day + 1], [LAST_DAY], [beyond]]),
+        [Asked::Activity] => each(&[[0], [last], [count]]),
+        [Asked::Activity, Asked::Date] => {
+            each(&[[last, day + 1], [count, day + 1], [last, beyond], [count, beyond]])
         }
         _ => vec![Vec::new()],
     }
+}
+
+/// Those questions, none of them twice in a row.
+fn each<const N: usize>(asked: &[[u64; N]]) -> Vec<Vec<u64>> {
+    let mut questions: Vec<Vec<u64>> = asked.iter().map(|values| values.to_vec()).collect();
+    questions.dedup();
+    questions
 }
 
 /// The lines of a call on one book: a slice that fits, a longer one, one that is too short by one, and an empty one; a
@@ -88,12 +80,13 @@ fn books(file: &str) -> Vec<Vec<u8>> {
     stored.chain(short.take(MADE)).collect()
 }
 
-/// The lines of every replayed call on those books.
+/// The lines of every call on those books; the verdict, which leaves no rows, has vectors of its own.
 pub fn text(file: &str) -> String {
     let books = books(file);
-    let calls = CALLS.iter().filter(|call| REPLAYED.contains(&call.name));
-    let on_book = |call, bytes| -> String {
-        questions(call, bytes).iter().map(|asked| lines(call, bytes, asked)).collect()
+    let calls = CALLS.iter().filter(|call| call.name != "verdict");
+    let on_book = |call, bytes: &[u8]| -> String {
+        let book = decode(bytes).unwrap_or_default();
+        questions(call, &book).iter().map(|asked| lines(call, bytes, asked)).collect()
     };
     calls.flat_map(|call| books.iter().map(move |bytes| on_book(call, bytes))).collect()
 }

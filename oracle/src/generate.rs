@@ -66,7 +66,10 @@ pub fn asked(call: &Call, book: &Book, random: &mut Random) -> Vec<u64> {
     };
     let value = |kind: &Asked, random: &mut Random| match (kind, random.one_in(12)) {
         (Asked::Activity, false) if activities > 0 => random.below(activities),
-        (Asked::Activity, _) => activities + random.wide() / 2,
+        (Asked::Activity, _) => {
+            let any = activities + random.wide() / 2;
+            random.pick(&[activities, activities + 1, 1 << 32, u64::MAX, any])
+        }
         (Asked::Date, false) => day(random),
         (Asked::Date, true) => {
             let any = random.wide();

@@ -3,7 +3,6 @@ pub mod Owners
 pub mod Taken
 pub mod Named
 pub mod Handed
-pub mod Costed
 pub mod Written
 pub mod Lined
 pub mod Accepted

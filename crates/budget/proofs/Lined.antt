@@ -2,10 +2,10 @@
 use Prim.Native.Nat.{ℕ, zero, suc, _+_, _≤_, _<_}
 use native.Mathlib.Omega.{arith}
 use mathlib.Core.Path.{_≡_, refl, ap, ap₂, _∙_}
-use mathlib.Core.List.{List, _∷_, map, List·Memᴰ}
+use mathlib.Core.List.{List, _∷_, _++_, map, List·Memᴰ}
 use mathlib.Core.Option.{none, some}
 use lib.IntN.{ℤ, pos}
-use lib.ListN.{length, getD}
+use lib.ListN.{length, getD, length-append}
 use mir.Syntax.{w64}
 use Rattle.integer.specs.Folds.{saturated}
 use Rattle.format.specs.Book.{Book}
@@ -17,6 +17,8 @@ use Rattle.model.specs.Costs.{costOf, projectCost}
 use Rattle.model.specs.Budgets.{Owner, BudgetLine, budgetFor, currentOf, proposedOf, distributedOf, hasLine, lineOwners, depthOf, lineFor, budgetLines}
 use Rattle.model.proofs.Lists.{made-at, map-same, keep-in, span-in}
 use Rattle.tree.specs.Figures.{parentsOf, figureOf}
+use Rattle.rows.specs.Rows.{optional}
+use Rattle.rows.proofs.Sets.{optional-two}
 use Rattle.budget.specs.Owners.{byOwner, MarksLines}
 use Rattle.budget.specs.Lines.{lineIn, activityLine, linesIn}
 use Rattle.budget.specs.Rows.{budgetRow}
@@ -24,8 +26,11 @@ use Rattle.budget.proofs.Owners.{at-owner}
 use Rattle.budget.proofs.Named.{marked-owners}
 
 pub row-long : (l : BudgetLine) → length (budgetRow l) ≡ 10
-unfolding budgetRow
-row-long l = refl
+unfolding budgetRow optional
+row-long l = behind (l .activity) _
+  where
+    behind : (o : Owner) (rest : List ℕ) → length (optional o ++ rest) ≡ 2 + length rest
+    behind o rest = length-append (optional o) rest ∙ ap (λ (n : ℕ). n + length rest) (optional-two o)
 
 -- a walk makes no more steps than its limit
 steps-most : (ps : Parents) (limit : ℕ) (to : Owner) → length (steps ps limit to) ≤ limit

@@ -1,25 +1,15 @@
 -- Rows of ten numbers, one written behind the other.
-use Prim.Native.Nat.{ℕ, suc, _+_, _*_, _-_, _≤_, _<_}
+use Prim.Native.Nat.{ℕ, _+_, _*_, _≤_, _<_}
 use native.Mathlib.Omega.{arith}
 use mathlib.Core.Path.{_≡_, refl, sym, ap, _∙_}
 use mathlib.Core.Bool.{Bool, true, false}
-use mathlib.Core.List.{List, [], _∷_, _++_, map, flatMap, append-nil}
-use lib.ListN.{length, set, length-append}
-use lib.Seq.{sets, length-sets, sets-eq, drop-length}
+use mathlib.Core.List.{List, [], _∷_, _++_, map, flatMap}
+use lib.ListN.{length, length-append}
+use lib.Seq.{sets, length-sets}
 use Rattle.model.specs.Lists.{span, keep}
 use Rattle.rows.specs.Rows.{numbers}
+use Rattle.rows.proofs.Sets.{sets-on, sets-whole}
 use Rattle.budget.proofs.Named.{onward, onward-first, onward-taken, onward-passed, onward-end}
-
--- what is set behind what was set
-pub sets-on : (out : List ℕ) (at : ℕ) (r rs : List ℕ) (n : ℕ) → at + length r ≡ n → sets (sets out at r) n rs ≡ sets out at (r ++ rs)
-sets-on out at [] rs n e = let z : n ≡ at = omega arith in ap (λ (k : ℕ). sets out k rs) z
-sets-on out at (x ∷ r) rs n e = sets-on (set out at x) (suc at) r rs n (omega arith)
-
-sets-whole : (vs out : List ℕ) → length vs ≡ length out → sets out 0 vs ≡ vs
-sets-whole vs out e =
-    let room : 0 + length vs ≤ length out = omega arith in
-    let all : 0 + length vs ≡ length out = omega arith in
-    rw (sets-eq vs out 0 room, all, drop-length out) (append-nil vs)
 
 numbers-length : (row : ℕ → List ℕ) → ((i : ℕ) → length (row i) ≡ 10) → (is : List ℕ) → length (numbers (map row is)) ≡ length is * 10
 unfolding numbers flatMap

@@ -25,6 +25,14 @@ ownerAt k = cond (ltb k 500) (some k) none
 unfoldable pub byOwner : (Owner → ℤ) → List ℤ
 byOwner f = map (λ (k : ℕ). f (ownerAt k)) (span 0 501)
 
+-- an entry for each owner in every column
+pub record AllOwners (original current proposed distributed planned : List ℤ) : Type 0 where
+  pub originalLong : length original ≡ 501
+  pub currentLong : length current ≡ 501
+  pub proposedLong : length proposed ≡ 501
+  pub distributedLong : length distributed ≡ 501
+  pub plannedLong : length planned ≡ 501
+
 abbrev pub budgetPlace : Budget → ℕ
 budgetPlace b = markOf (b .activity)
 

@@ -1,8 +1,8 @@
 // The lines, from the columns, and their rows.
-use activities::columns::number_or;
 use book::budgets::mark_of;
 use fields::OptionalNumber;
 use money::words::to_bits;
+use rows::put_optional;
 use tree::walk_up;
 ghost use mathlib.Core.Path.{_≡_};
 ghost use mathlib.Core.List.{[], _∷_, map};
@@ -12,7 +12,8 @@ ghost use lib.ListN.{length};
 ghost use lib.Seq.{sets};
 ghost use Rattle.fields.specs.Optional.{numberOption};
 ghost use Rattle.rows.specs.Rows.{numbers};
-ghost use Rattle.budget.specs.Rows.{presence, budgetRow};
+ghost use Rattle.budget.specs.Rows.{budgetRow};
+ghost use Rattle.budget.specs.Owners.{AllOwners};
 ghost use Rattle.budget.specs.Lines.{lineOf, lineIn, activityLine, linesIn};
 
 // A budget line. The depth has the steps that the walk from the activity made.
@@ -38,7 +39,7 @@ fn line_at(
     distributed: &[i64],
     planned: &[i64],
 ) -> Line
-    requires { ⌜ (length (now original) ≡ 501) × (length (now current) ≡ 501) × (length (now proposed) ≡ 501) × (length (now distributed) ≡ 501) × (length (now planned) ≡ 501) ⌝ }
+    requires { ⌜ AllOwners (now original) (now current) (now proposed) (now distributed) (now planned) ⌝ }
     ensures { λ r. ⌜ lineOf r ≡ lineIn (now (original .entry)) (now (current .entry)) (now (proposed .entry)) (now (distributed .entry)) (now (planned .entry)) (numberOption activity) depth scheduled ⌝ }
 {
     let k = mark_of(activity);
@@ -66,33 +67,30 @@ fn put_five(a: u64, b: u64, c: u64, d: u64, e: u64, at: usize, out: &mut [u64])
     out[at + 4] = e;
 }
 
-// 1 for an activity, 0 for the project.
-fn presence_of(activity: OptionalNumber) -> u64
-    ensures { λ r. ⌜ r ≡ presence (numberOption activity) ⌝ }
-{
-    match activity {
-        OptionalNumber::Absent => 0,
-        OptionalNumber::Present(_) => 1,
-    }
-}
-
 // The ten numbers of a line.
 fn put_line(line: Line, at: usize, out: &mut [u64])
     requires { ⌜ (at + 10 ≤ length (now out)) × (at ≤ 5000) ⌝ }
     ensures { λ r. ⌜ now (out .exit) ≡ sets (now (out .entry)) at (budgetRow (lineOf line)) ⌝ }
 {
     let activity = line.activity;
-    let depth = line.depth;
-    let present = presence_of(activity);
-    let index = number_or(activity, 0);
     let original = to_bits(line.original);
     let current = to_bits(line.current);
     let proposed = to_bits(line.proposed);
     let distributed = to_bits(line.distributed);
     let planned = to_bits(line.planned);
     let scheduled = to_bits(line.scheduled);
-    put_five(present, index, depth, original, current, at, out);
-    put_five(proposed, distributed, planned, 1, scheduled, at + 5, out);
+    put_optional(activity, at, out);
+    out[at + 2] = line.depth;
+    put_five(
+        original,
+        current,
+        proposed,
+        distributed,
+        planned,
+        at + 3,
+        out,
+    );
+    put_optional(OptionalNumber::Present(scheduled), at + 8, out);
 }
 
 // The project's line, before all others.
@@ -105,7 +103,7 @@ fn put_project(
     planned: &[i64],
     out: &mut [u64],
 )
-    requires { ⌜ (length (now original) ≡ 501) × (length (now current) ≡ 501) × (length (now proposed) ≡ 501) × (length (now distributed) ≡ 501) × (length (now planned) ≡ 501) ⌝ }
+    requires { ⌜ AllOwners (now original) (now current) (now proposed) (now distributed) (now planned) ⌝ }
     requires { ⌜ 10 ≤ length (now out) ⌝ }
     ensures { λ r. ⌜ now (out .exit) ≡ sets (now (out .entry)) 0 (budgetRow (lineIn (now (original .entry)) (now (current .entry)) (now (proposed .entry)) (now (distributed .entry)) (now (planned .entry)) none 0 whole)) ⌝ }
 {
@@ -136,7 +134,7 @@ fn put_activity(
     out: &mut [u64],
 )
     requires { ⌜ (i < length (now parents)) × (length (now parents) ≤ 500) × (length (now scheduled) ≡ length (now parents)) ⌝ }
-    requires { ⌜ (length (now original) ≡ 501) × (length (now current) ≡ 501) × (length (now proposed) ≡ 501) × (length (now distributed) ≡ 501) × (length (now planned) ≡ 501) ⌝ }
+    requires { ⌜ AllOwners (now original) (now current) (now proposed) (now distributed) (now planned) ⌝ }
     requires { ⌜ (at + 10 ≤ length (now out)) × (at ≤ 5000) ⌝ }
     ensures { λ r. ⌜ now (out .exit) ≡ sets (now (out .entry)) at (budgetRow (activityLine (now (original .entry)) (now (current .entry)) (now (proposed .entry)) (now (distributed .entry)) (now (planned .entry)) (now (parents .entry)) (now (scheduled .entry)) i)) ⌝ }
 {
@@ -168,8 +166,7 @@ pub fn put_lines(
     planned: &[i64],
     out: &mut [u64],
 )
-    requires { ⌜ (length (now parents) ≤ length (now marks)) × (length (now parents) ≤ 500) × (length (now scheduled) ≡ length (now parents)) ⌝ }
-    requires { ⌜ (length (now original) ≡ 501) × (length (now current) ≡ 501) × (length (now proposed) ≡ 501) × (length (now distributed) ≡ 501) × (length (now planned) ≡ 501) ⌝ }
+    requires { ⌜ AllOwners (now original) (now current) (now proposed) (now distributed) (now planned) × (length (now parents) ≤ length (now marks)) × (length (now parents) ≤ 500) × (length (now scheduled) ≡ length (now parents)) ⌝ }
     requires { ⌜ length (now out) ≡ length (linesIn (now original) (now current) (now proposed) (now distributed) (now planned) (now parents) (now scheduled) (now marks) whole) * 10 ⌝ }
     ensures { λ r. ⌜ now (out .exit) ≡ numbers (map budgetRow (linesIn (now (original .entry)) (now (current .entry)) (now (proposed .entry)) (now (distributed .entry)) (now (planned .entry)) (now (parents .entry)) (now (scheduled .entry)) (now (marks .entry)) whole)) ⌝ }
 {

@@ -21,7 +21,7 @@ ghost use Rattle.activities.specs.Ways.{byWays};
 ghost use Rattle.charges.specs.Assigned.{ownerBy, sourceBy, ownerOf, sourceOf, Room, AreAssigned};
 
 // Whom an assignment is charged to: 500, which is no activity, without a resource.
-fn owner_of(resource: OptionalNumber, activity: u64) -> u64
+pub fn owner_of(resource: OptionalNumber, activity: u64) -> u64
     ensures { λ r. ⌜ r ≡ ownerBy (numberOption resource) activity ⌝ }
 {
     match resource {
@@ -31,7 +31,7 @@ fn owner_of(resource: OptionalNumber, activity: u64) -> u64
 }
 
 // The place of a resource.
-fn source_of(resource: OptionalNumber, places: &[u64]) -> u64
+pub fn source_of(resource: OptionalNumber, places: &[u64]) -> u64
     ensures { λ r. ⌜ r ≡ sourceBy (now (places .entry)) (numberOption resource) ⌝ }
 {
     match resource {

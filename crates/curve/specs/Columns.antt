@@ -1,10 +1,10 @@
 -- The columns that the curve is made of: the leaves' marks and budgets, the listed spans, the calendars.
-use Prim.Native.Nat.{ℕ, _+_, _≤_, _<_}
+use Prim.Native.Nat.{ℕ, _≤_}
 use mathlib.Core.Path.{_≡_}
 use mathlib.Core.Bool.{cond}
 use mathlib.Core.List.{List, [], map, flatMap}
-use lib.IntN.{ℤ, pos}
-use lib.ListN.{length, replicate}
+use lib.IntN.{ℤ}
+use lib.ListN.{length}
 use Rattle.format.specs.Format as layout
 use Rattle.format.specs.Verdict.{content}
 use Rattle.fields.specs.declared.OptionalNumber.{OptionalNumber}
@@ -18,7 +18,8 @@ use Rattle.model.specs.Planned.{budgetOf}
 use Rattle.tree.specs.Figures.{MarksLeaves, figureOf, isUnmarked}
 use Rattle.activities.specs.declared.Stretch.{Stretch}
 use Rattle.activities.specs.Columns.{calendarNumber}
-use Rattle.spending.specs.Charges.{rowOf, tabled}
+use Rattle.activities.specs.Stretches.{Covers}
+use Rattle.spending.specs.Charges.{tabled}
 use Rattle.earned.specs.Listed.{listedFirst, listedLast}
 use Rattle.earned.specs.Own.{ofLeaf}
 
@@ -44,12 +45,11 @@ pub record AreColumns (s : List ℕ) (plan : Plan) (leaves : List ℕ) (budgets 
   pub ends : lasts ≡ map (listedLast (content s)) (indices (parents (content s)))
   pub kept : calendars ≡ map calendarNumber (alikeIn (layout.activity (plan .calendars .count) (plan .activities .count)) s (plan .activities))
 
--- ---- tables
+-- ---- two dates of a stretch that covers the spans
 
--- one for the days of so many calendars over a stretch, and empty ones for the sums and the marks of its dates
-pub record AreTables (known : Stretch) (calendars : ℕ) (days : List ℕ) (sums : List ℤ) (marks : List ℕ) : Type 0 where
-  pub room : rowOf known calendars ≤ length days
-  pub size : ℕ
-  pub reach : known .to < known .from + size
-  pub noSums : sums ≡ replicate size (pos 0)
-  pub noMarks : marks ≡ replicate size 0
+pub record AreAsked (s : List ℕ) (plan : Plan) (leaves : List ℕ) (budgets : List ℤ) (firsts lasts calendars : List ℕ) (known : Stretch) (lo hi : ℕ) : Type 0 where
+  pub columns : AreColumns s plan leaves budgets firsts lasts calendars
+  pub covers : Covers firsts lasts known
+  pub begins : known .from ≤ lo
+  pub rises : lo ≤ hi
+  pub ends : hi ≤ known .to

@@ -1,6 +1,6 @@
 // The leaves' budgets, spread over the listed days of their spans.
 use activities::Stretch;
-use spending::charges::row_of;
+use spending::charged::row_of;
 use spending::days::span_of;
 use spending::expenses::lay_spread;
 ghost use Prim.Native.Nat.{_+_, _≤_};

@@ -18,10 +18,9 @@ ghost use lib.ListN.{length};
 ghost use Rattle.format.specs.Verdict.{content};
 ghost use Rattle.book.specs.Plan.{IsPlanOf, IsBaselineOf};
 ghost use Rattle.model.specs.Planned.{plannedCurveBetween};
-ghost use Rattle.activities.specs.Stretches as stretches;
-ghost use Rattle.spending.specs.Charges.{rowOf};
-ghost use Rattle.spending.specs.Rows.{pointRows, written};
-ghost use Rattle.curve.specs.Columns.{AreColumns, AreTables};
+ghost use Rattle.spending.specs.Charges.{rowOf, AreTables};
+ghost use Rattle.spending.specs.Rows.{pointRows, written, Writes};
+ghost use Rattle.curve.specs.Columns.{AreColumns, AreAsked};
 
 pub mod columns;
 pub mod leaves;
@@ -44,12 +43,9 @@ fn rows_in(
     marks: &mut [u8],
     out: &mut [u64],
 ) -> u64
-    requires { ⌜ AreColumns (now book) plan (now leaves) (now budgets) (now firsts) (now lasts) (now calendars) ⌝ }
-    requires { ⌜ stretches.Covers (now firsts) (now lasts) known ⌝ }
-    requires { ⌜ (known .from ≤ lo) × (lo ≤ hi) × (hi ≤ known .to) ⌝ }
-    requires { ⌜ AreTables known (plan .calendars .count) (now days) (now sums) (now marks) ⌝ }
-    ensures { λ r. ⌜ r ≡ length (pointRows (plannedCurveBetween (content (now (book .entry))) lo hi)) ⌝ }
-    ensures { λ r. ⌜ now (out .exit) ≡ written (pointRows (plannedCurveBetween (content (now (book .entry))) lo hi)) (now (out .entry)) ⌝ }
+    requires { ⌜ AreAsked (now book) plan (now leaves) (now budgets) (now firsts) (now lasts) (now calendars) known lo hi ⌝ }
+    requires { ⌜ AreTables known (plan .calendars .count) (known .from) (known .to) (now days) (now sums) (now marks) ⌝ }
+    ensures { λ r. ⌜ Writes (pointRows (plannedCurveBetween (content (now (book .entry))) lo hi)) r (now (out .entry)) (now (out .exit)) ⌝ }
 {
     let list = plan.calendars;
     fill_all(book, list, known.from, known.to, days);
@@ -82,12 +78,9 @@ fn small_rows(
     hi: u64,
     out: &mut [u64],
 ) -> u64
-    requires { ⌜ AreColumns (now book) plan (now leaves) (now budgets) (now firsts) (now lasts) (now calendars) ⌝ }
-    requires { ⌜ stretches.Covers (now firsts) (now lasts) known ⌝ }
-    requires { ⌜ (known .from ≤ lo) × (lo ≤ hi) × (hi ≤ known .to) ⌝ }
+    requires { ⌜ AreAsked (now book) plan (now leaves) (now budgets) (now firsts) (now lasts) (now calendars) known lo hi ⌝ }
     requires { ⌜ (rowOf known (plan .calendars .count) ≤ 4096) × (known .to < known .from + 1024) ⌝ }
-    ensures { λ r. ⌜ r ≡ length (pointRows (plannedCurveBetween (content (now (book .entry))) lo hi)) ⌝ }
-    ensures { λ r. ⌜ now (out .exit) ≡ written (pointRows (plannedCurveBetween (content (now (book .entry))) lo hi)) (now (out .entry)) ⌝ }
+    ensures { λ r. ⌜ Writes (pointRows (plannedCurveBetween (content (now (book .entry))) lo hi)) r (now (out .entry)) (now (out .exit)) ⌝ }
 {
     let mut days = [0u8; 4096];
     let mut sums = [0i64; 1024];
@@ -124,12 +117,9 @@ fn full_rows(
     hi: u64,
     out: &mut [u64],
 ) -> u64
-    requires { ⌜ AreColumns (now book) plan (now leaves) (now budgets) (now firsts) (now lasts) (now calendars) ⌝ }
-    requires { ⌜ stretches.Covers (now firsts) (now lasts) known ⌝ }
-    requires { ⌜ (known .from ≤ lo) × (lo ≤ hi) × (hi ≤ known .to) ⌝ }
+    requires { ⌜ AreAsked (now book) plan (now leaves) (now budgets) (now firsts) (now lasts) (now calendars) known lo hi ⌝ }
     requires { ⌜ (rowOf known (plan .calendars .count) ≤ 584400) × (known .to < known .from + 36525) ⌝ }
-    ensures { λ r. ⌜ r ≡ length (pointRows (plannedCurveBetween (content (now (book .entry))) lo hi)) ⌝ }
-    ensures { λ r. ⌜ now (out .exit) ≡ written (pointRows (plannedCurveBetween (content (now (book .entry))) lo hi)) (now (out .entry)) ⌝ }
+    ensures { λ r. ⌜ Writes (pointRows (plannedCurveBetween (content (now (book .entry))) lo hi)) r (now (out .entry)) (now (out .exit)) ⌝ }
 {
     let mut days = [0u8; 584400];
     let mut sums = [0i64; 36525];
@@ -152,7 +142,7 @@ fn full_rows(
     )
 }
 
-// The same, by tables that are large enough; none where the first date is later.
+// The same, by tables that are large enough.
 fn rows_between(
     book: &[u8],
     plan: Plan,
@@ -166,15 +156,9 @@ fn rows_between(
     hi: u64,
     out: &mut [u64],
 ) -> u64
-    requires { ⌜ AreColumns (now book) plan (now leaves) (now budgets) (now firsts) (now lasts) (now calendars) ⌝ }
-    requires { ⌜ stretches.Covers (now firsts) (now lasts) known ⌝ }
-    requires { ⌜ (known .from ≤ lo) × (hi ≤ known .to) ⌝ }
-    ensures { λ r. ⌜ r ≡ length (pointRows (plannedCurveBetween (content (now (book .entry))) lo hi)) ⌝ }
-    ensures { λ r. ⌜ now (out .exit) ≡ written (pointRows (plannedCurveBetween (content (now (book .entry))) lo hi)) (now (out .entry)) ⌝ }
+    requires { ⌜ AreAsked (now book) plan (now leaves) (now budgets) (now firsts) (now lasts) (now calendars) known lo hi ⌝ }
+    ensures { λ r. ⌜ Writes (pointRows (plannedCurveBetween (content (now (book .entry))) lo hi)) r (now (out .entry)) (now (out .exit)) ⌝ }
 {
-    if hi < lo {
-        return 0;
-    }
     let list = plan.calendars;
     if is_small(list.count, known.to + 1 - known.from) {
         return small_rows(
@@ -206,7 +190,7 @@ fn rows_between(
     )
 }
 
-// The rows between two dates, from columns of the leaves' budgets, the listed spans and the calendars.
+// The rows between two dates, from columns of the leaves' budgets, the listed spans and the calendars; none where the first date is later.
 fn rows_of(
     book: &[u8],
     plan: Plan,
@@ -220,12 +204,14 @@ fn rows_of(
     out: &mut [u64],
 ) -> u64
     requires { ⌜ AreColumns (now book) plan (now leaves) (now budgets) (now firsts) (now lasts) (now calendars) ⌝ }
-    ensures { λ r. ⌜ r ≡ length (pointRows (plannedCurveBetween (content (now (book .entry))) from to)) ⌝ }
-    ensures { λ r. ⌜ now (out .exit) ≡ written (pointRows (plannedCurveBetween (content (now (book .entry))) from to)) (now (out .entry)) ⌝ }
+    ensures { λ r. ⌜ Writes (pointRows (plannedCurveBetween (content (now (book .entry))) from to)) r (now (out .entry)) (now (out .exit)) ⌝ }
 {
     let known = stretch(firsts, lasts);
     let lo = later(from, known.from);
     let hi = earlier(to, known.to);
+    if hi < lo {
+        return 0;
+    }
     rows_between(
         book,
         plan,

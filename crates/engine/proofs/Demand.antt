@@ -32,40 +32,43 @@ use Rattle.model.proofs.Lists.{made-at, got-in}
 use Rattle.model.proofs.EarnedValue.{earned-planned-fits, earned-budget-fits, project-planned-fits}
 use Rattle.model.proofs.Curve.{curve-fits}
 use Rattle.model.proofs.Demand.{Reads, planned-value-read}
-use Rattle.engine.specs.declared.Reply.the-variants.{Accepted, Refused}
+use Rattle.answers.specs.declared.Reply.the-variants.{Accepted, Refused}
 use Rattle.spending.specs.Rows.{pointRow}
-use Rattle.engine.specs.Rows.{Rows, earnedRow, earnedValueRows, projectEarnedRows, plannedCurveRows}
-use Rattle.engine.specs.Calls.{areDates, replyOn, replyAt, leaves, reply, left, replyPlace}
+use Rattle.answers.specs.Rows.{Rows, earnedRow, earnedValueRows, projectEarnedRows, plannedCurveRows}
+use Rattle.answers.specs.Calls.{Asked, asks, all, isActivity, isDate, required, replyOn, replyAt, leaves, reply, left, replyPlace}
 use Rattle.engine.specs.Demand.{numberAt, pointIn, LentAt, IsAccepted, earnedReply, projectReply, curveReply, AllAccepted, lentReading, lentCurve}
-use Rattle.engine.proofs.Made.{count-is}
+use Rattle.figures.proofs.Made.{count-is}
 
 -- ---- an accepted call
 refused-no : {A : Type 0} (e p n : ℕ) → Refused e p ≡ Accepted n → A
 refused-no e p n h = let z : _≡_ {A = ℕ} 0 1 = cc in absurd (omega arith)
 
-module _ (dates : List ℕ) (rows : Book → Rows) (s out : List ℕ) (accepted : IsAccepted (reply dates rows s (length out))) where
+module _ (asked : Asked) (rows : Book → Rows) (s out : List ℕ) (accepted : IsAccepted (reply asked rows s (length out))) where
   -- it is answered to an accepted book
   accepts : (j : ℕ) × (verdict s ≡ place.At j)
   unfolding reply
   accepts = go (verdict s) refl (accepted .1)
     where
-      go : (p : Pos) → verdict s ≡ p → replyAt p (replyOn dates (rows (content s)) (length out)) ≡ Accepted (accepted .0) → (j : ℕ) × (verdict s ≡ place.At j)
+      go : (p : Pos) → verdict s ≡ p → replyAt p (replyOn asked rows (content s) (length out)) ≡ Accepted (accepted .0) → (j : ℕ) × (verdict s ≡ place.At j)
       go (place.At j) e h = (j, e)
       go (place.Refused e p) q h = refused-no e p (accepted .0) h
 
   -- with the count of its rows
   counts : accepted .0 ≡ length (rows (content s))
   unfolding reply replyOn replyPlace
-  counts = go (verdict s) (areDates dates) (leb (length (numbers (rows (content s)))) (length out)) (accepted .1)
+  counts = go (verdict s) (all (isActivity (content s)) (asked .activities)) (all isDate (asked .dates)) (leb (length (numbers (rows (content s)))) (length out)) (accepted .1)
     where
-      go : (p : Pos) (a b : Bool) → replyAt p (cond a (cond b (Accepted (length (rows (content s)))) (Refused 10 0)) (Refused 9 0)) ≡ Accepted (accepted .0) → accepted .0 ≡ length (rows (content s))
-      go (place.At j) true true h = sym (ap replyPlace h)
-      go (place.At j) true false h = refused-no 10 0 (accepted .0) h
-      go (place.At j) false b h = refused-no 9 0 (accepted .0) h
-      go (place.Refused e p) a b h = refused-no e p (accepted .0) h
+      go :
+          (p : Pos) (a b c : Bool) →
+          replyAt p (required a 8 (required b 9 (required c 10 (Accepted (length (rows (content s))))))) ≡ Accepted (accepted .0) → accepted .0 ≡ length (rows (content s))
+      go (place.At j) true true true h = sym (ap replyPlace h)
+      go (place.At j) true true false h = refused-no 10 0 (accepted .0) h
+      go (place.At j) true false c h = refused-no 9 0 (accepted .0) h
+      go (place.At j) false b c h = refused-no 8 0 (accepted .0) h
+      go (place.Refused e p) a b c h = refused-no e p (accepted .0) h
 
   -- and leaves them at the front of lent memory
-  stands : left dates rows s out ≡ numbers (rows (content s)) ++ drop (length (numbers (rows (content s)))) out
+  stands : left asked rows s out ≡ numbers (rows (content s)) ++ drop (length (numbers (rows (content s)))) out
   unfolding left leaves
   stands = rw (accepted .1)
 
@@ -95,22 +98,22 @@ module _ {A : Type 0} (width : ℕ) (row : A → List ℕ) (long : (a : A) → l
 module _ (s : List ℕ) (at : LentAt) (k : ℕ) (l : k < 6) (f : Earned → ℤ) (put : (e : Earned) → getD (earnedRow e) k 0 ≡ bits (f e)) where
   earned-read :
       IsAccepted (earnedReply s at) → (i : ℕ) → i < length (content s .activities) → SFits w64 (f (earnedAt (content s) (at .date) i)) →
-      ofBits (numberAt 6 (left (at .date ∷ []) (earnedValueRows (at .date)) s (at .earned)) i k) ≡ f (earnedAt (content s) (at .date) i)
+      ofBits (numberAt 6 (left (asks [] (at .date ∷ [])) (earnedValueRows (at .date)) s (at .earned)) i k) ≡ f (earnedAt (content s) (at .date) i)
   unfolding earnedRow earnedValueRows earnedValue
   earned-read a i h fits =
       let row : ℕ → Earned = earnedAt (content s) (at .date) in
       let n = length (parents (content s)) in
       let here : i < n = omega (arith, count-is (content s)) in
-      ap (λ (out : List ℕ). ofBits (numberAt 6 out i k)) (stands (at .date ∷ []) (earnedValueRows (at .date)) s (at .earned) a)
+      ap (λ (out : List ℕ). ofBits (numberAt 6 out i k)) (stands (asks [] (at .date ∷ [])) (earnedValueRows (at .date)) s (at .earned) a)
       ∙ figure-is 6 earnedRow (λ e. refl) k l f put (earnedValue (content s) (at .date)) (row 0) _ i (omega (arith, made-length row n)) (row i) (made-at row (row 0) n i here) fits
 
   project-read :
       IsAccepted (projectReply s at) → SFits w64 (f (projectEarned (content s) (at .date))) →
-      ofBits (numberAt 6 (left (at .date ∷ []) (projectEarnedRows (at .date)) s (at .project)) 0 k) ≡ f (projectEarned (content s) (at .date))
+      ofBits (numberAt 6 (left (asks [] (at .date ∷ [])) (projectEarnedRows (at .date)) s (at .project)) 0 k) ≡ f (projectEarned (content s) (at .date))
   unfolding earnedRow projectEarnedRows
   project-read a fits =
       let row = projectEarned (content s) (at .date) in
-      ap (λ (out : List ℕ). ofBits (numberAt 6 out 0 k)) (stands (at .date ∷ []) (projectEarnedRows (at .date)) s (at .project) a)
+      ap (λ (out : List ℕ). ofBits (numberAt 6 out 0 k)) (stands (asks [] (at .date ∷ [])) (projectEarnedRows (at .date)) s (at .project) a)
       ∙ figure-is 6 earnedRow (λ e. refl) k l f put (row ∷ []) row _ 0 (omega arith) row refl fits
 
 reads : (s : List ℕ) → InRange (content s) → (at : LentAt) → IsAccepted (earnedReply s at) → IsAccepted (projectReply s at) → Reads (content s) (lentReading s at)
@@ -145,9 +148,9 @@ curve-read : (s : List ℕ) (to : ℕ) (lent : List ℕ) → IsAccepted (curveRe
 unfolding plannedCurveRows replyPlace
 curve-read s to lent a =
     let points = plannedCurveBetween (content s) 10957 to in
-    let dates : List ℕ = 10957 ∷ to ∷ [] in
-    let count : replyPlace (curveReply s to lent) ≡ length points = ap replyPlace (a .1) ∙ counts dates (plannedCurveRows 10957 to) s lent a ∙ length-map points pointRow in
-    rw (count, stands dates (plannedCurveRows 10957 to) s lent a) (points-back points _ (curve-fits (content s) 10957 to))
+    let asked : Asked = asks [] (10957 ∷ to ∷ []) in
+    let count : replyPlace (curveReply s to lent) ≡ length points = ap replyPlace (a .1) ∙ counts asked (plannedCurveRows 10957 to) s lent a ∙ length-map points pointRow in
+    rw (count, stands asked (plannedCurveRows 10957 to) s lent a) (points-back points _ (curve-fits (content s) 10957 to))
 
 -- ---- the theorem
 
@@ -157,7 +160,7 @@ pub planned-value-lent :
     NoOwnAncestor (content s) → SmallBudgets (content s) (lentReading s D) → D .date ≤ E .date →
     PlannedValue (content s) (lentReading s D) (lentReading s E) (lentCurve s (E .date) curve)
 planned-value-lent s bytes D E curve a tree small order =
-    let j = accepts (D .date ∷ []) (earnedValueRows (D .date)) s (D .earned) (a .earnedAtD) in
+    let j = accepts (asks [] (D .date ∷ [])) (earnedValueRows (D .date)) s (D .earned) (a .earnedAtD) in
     let w = verdict-accepts s bytes (j .0) (j .1) in
     let ok = content-in-range s w in
     rw (curve-read s (E .date) curve (a .curveToE))

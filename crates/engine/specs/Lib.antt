@@ -1,5 +1,1 @@
-pub mod Rows
-pub mod Columns
-pub mod Opened
-pub mod Calls
 pub mod Demand

@@ -1,4 +1,5 @@
 // How the work done performs, and what the work still to do will cost, from the figures of earned value.
+use fields::OptionalNumber;
 use floats::Index;
 use floats::at_rate;
 use floats::bits;
@@ -10,12 +11,13 @@ use model::Indices;
 use money::sums::saturating_add;
 use money::sums::saturating_sub;
 use money::words::to_bits;
+use rows::put_optional;
 ghost use mathlib.Core.Path.{_≡_};
-ghost use Prim.Native.Nat.{_+_, _<_};
 ghost use lib.ListN.{length};
 ghost use lib.Seq.{sets};
 ghost use Rattle.model.specs.Forecast as definition;
-ghost use Rattle.forecast.specs.Rows.{estimatesRow, indexRow, forecastRow};
+ghost use Rattle.fields.specs.Optional.{numberOption};
+ghost use Rattle.forecast.specs.Rows.{estimatesRow, indexBits, indicesRow, forecastRow};
 
 // The budget still to earn.
 fn to_earn(e: Earned) -> i64
@@ -103,18 +105,24 @@ fn put_estimates(technique: EtcTechnique, e: Earned, out: &mut [u64])
     out[2] = to_bits(variance);
 }
 
-// An index, from number `at` on.
-fn put_index(x: Index, at: usize, out: &mut [u64])
-    requires { ⌜ at + 1 < length (now out) ⌝ }
-    ensures { λ r. ⌜ now (out .exit) ≡ sets (now (out .entry)) at (indexRow x) ⌝ }
+// The bits of an index, if there is one.
+fn index_bits(present: bool, value: f64) -> OptionalNumber
+    ensures { λ r. ⌜ numberOption r ≡ indexBits present value ⌝ }
 {
-    if x.present {
-        out[at] = 1;
-        out[at + 1] = bits(x.value);
-        return;
+    if present {
+        return OptionalNumber::Present(bits(value));
     }
-    out[at] = 0;
-    out[at + 1] = 0;
+    OptionalNumber::Absent
+}
+
+// The indices, behind the estimates.
+fn put_indices(x: Indices, out: &mut [u64])
+    requires { ⌜ length (now out) ≡ 9 ⌝ }
+    ensures { λ r. ⌜ now (out .exit) ≡ sets (now (out .entry)) 3 (indicesRow x) ⌝ }
+{
+    put_optional(index_bits(x.hasCpi, x.cpi), 3, out);
+    put_optional(index_bits(x.hasSpi, x.spi), 5, out);
+    put_optional(index_bits(x.hasTcpi, x.tcpi), 7, out);
 }
 
 // The forecast and the indices as a row.
@@ -123,7 +131,5 @@ pub fn put_forecast(technique: EtcTechnique, e: Earned, out: &mut [u64])
     ensures { λ r. ⌜ now (out .exit) ≡ forecastRow technique e ⌝ }
 {
     put_estimates(technique, e, out);
-    put_index(cpi(e), 3, out);
-    put_index(spi(e), 5, out);
-    put_index(tcpi(e), 7, out);
+    put_indices(indices(e), out);
 }

@@ -3,17 +3,17 @@ use Prim.Native.Nat.{ℕ, suc, _+_, _-_, _*_, _≤_, _<_}
 use native.Mathlib.Nat.{sub-zero, mul-le-mul-right}
 use native.Mathlib.Numerals.{add-one}
 use native.Mathlib.Omega.{arith}
-use mathlib.Core.Path.{_≡_, refl, sym, ap, _∙_}
-use mathlib.Core.List.{List, _∷_, _++_, map, flatMap, append-nil}
-use mathlib.Core.Option.{Option, none, some}
-use lib.IntN.{ℤ}
-use lib.ListN.{length, set, drop, length-set, length-append}
-use lib.Seq.{sets, length-sets, drop-length}
+use mathlib.Core.Path.{_≡_, sym, ap, _∙_}
+use mathlib.Core.List.{List, _∷_, _++_, map, flatMap}
+use mathlib.Core.Option.{Option·map}
+use lib.ListN.{length, set, length-set, length-append}
+use lib.Seq.{sets, length-sets}
+use Rattle.money.specs.Words.{bits}
 use Rattle.model.specs.Lists.{span}
 use Rattle.model.specs.Periods.{PeriodPoint}
-use Rattle.rows.specs.Rows.{numbers, optionalBits}
+use Rattle.rows.specs.Rows.{numbers, optional}
 use Rattle.rows.proofs.Columns.{rows-length}
-use Rattle.spending.proofs.Setting.{sets-append, set-front}
+use Rattle.rows.proofs.Sets.{sets-on, sets-whole, optional-two}
 use Rattle.periods.specs.Rows.{periodRow}
 
 module _ (width : ℕ) (row : ℕ → List ℕ) (long : (i : ℕ) → length (row i) ≡ width) (n : ℕ) where
@@ -38,10 +38,7 @@ module _ (width : ℕ) (row : ℕ → List ℕ) (long : (i : ℕ) → length (ro
         full = e;
         rest =
             ap (λ (m : ℕ). sets out 0 (numbers (map row (span 0 m)))) (sub-zero n)
-            ∙ set-front out all (omega (arith, same))
-            ∙ ap (λ (m : ℕ). all ++ drop m out) same
-            ∙ ap (λ (l : List ℕ). all ++ l) (drop-length out)
-            ∙ append-nil all;
+            ∙ sets-whole all out same;
       }
 
   module _ {i at : ℕ} {now : List ℕ} (w : Written i at now) where
@@ -62,8 +59,7 @@ module _ (width : ℕ) (row : ℕ → List ℕ) (long : (i : ℕ) → length (ro
           full = ap length e ∙ length-sets now at (row i) ∙ w .full;
           rest =
               ap (λ (l : List ℕ). sets l (at + width) (from (i + 1))) e
-              ∙ ap (λ (k : ℕ). sets (sets now at (row i)) (at + k) (from (i + 1))) (sym (long i))
-              ∙ sym (sets-append now (row i) (from (i + 1)) at)
+              ∙ sets-on now at (row i) (from (i + 1)) (at + width) (ap (λ (k : ℕ). at + k) (long i))
               ∙ ap (sets now at) (sym (first h))
               ∙ w .rest;
         }
@@ -80,21 +76,16 @@ row-written out at a b c xs ys e =
     let one : at + 1 ≡ suc at = omega arith in
     let two : at + 2 ≡ suc (suc at) = omega arith in
     let three : at + 3 ≡ suc (suc (suc at)) = omega arith in
-    let five : at + 5 ≡ suc (suc (suc at)) + length xs = omega arith in
-    rw (one, two, three, five) (sym (sets-append (set (set (set out at a) (suc at) b) (suc (suc at)) c) xs ys (suc (suc (suc at)))))
+    rw (one, two, three) (sets-on (set (set (set out at a) (suc at) b) (suc (suc at)) c) (suc (suc (suc at))) xs ys (at + 5) (omega arith))
 
 pub head-length : (out : List ℕ) (at a b c : ℕ) → length (set (set (set out at a) (at + 1) b) (at + 2) c) ≡ length out
 head-length out at a b c = length-set (set (set out at a) (at + 1) b) (at + 2) c ∙ length-set (set out at a) (at + 1) b ∙ length-set out at a
 
 -- ---- the rows of the periods
 
-pub optional-two : (o : Option ℤ) → length (optionalBits o) ≡ 2
-unfolding optionalBits
-optional-two none = refl
-optional-two (some z) = refl
-
 pub row-seven : (x : PeriodPoint) → length (periodRow x) ≡ 7
 unfolding periodRow
 row-seven x =
-    let both = length-append (optionalBits (x .earned)) (optionalBits (x .actual)) in
-    omega (arith, both, optional-two (x .earned), optional-two (x .actual))
+    let worth = Option·map bits (x .earned) in
+    let spent = Option·map bits (x .actual) in
+    omega (arith, length-append (optional worth) (optional spent), optional-two worth, optional-two spent)

@@ -1,19 +1,21 @@
 // What is earned and spent to date, and the rows of the periods, from columns.
 use crate::columns::fill_records;
 use book::Section;
-use fields::OptionalAmount;
+use fields::OptionalNumber;
 use money::sums::saturating_add;
 use money::words::to_bits;
 use rows::put_optional;
 ghost use Prim.Native.Nat.{_+_, _*_, _≤_};
 ghost use mathlib.Core.Path.{_≡_};
 ghost use mathlib.Core.List.{map};
+ghost use mathlib.Core.Option.{Option·map};
 ghost use lib.IntN.{pos};
 ghost use lib.ListN.{length};
 ghost use lib.Seq.{sets};
 ghost use mir.Syntax.{w64};
 ghost use Rattle.integer.specs.Folds.{saturated};
-ghost use Rattle.fields.specs.Optional.{amountOption};
+ghost use Rattle.money.specs.Words.{bits};
+ghost use Rattle.fields.specs.Optional.{numberOption};
 ghost use Rattle.format.specs.InRange.{Every, PeriodRecordInRange};
 ghost use Rattle.format.specs.Format as layout;
 ghost use Rattle.book.specs.Sections.{alikeIn};
@@ -53,16 +55,16 @@ fn sum_to(date: u64, closes: &[u64], amounts: &[i64]) -> i64
     sum
 }
 
-// The sum to date of a period that closes at the date; absent where nothing of it is stored.
-fn to_date(p: u64, date: u64, periods: &[u64], closes: &[u64], amounts: &[i64]) -> OptionalAmount
+// The sum to date of a period that closes at the date, in two's complement; absent where nothing of it is stored.
+fn to_date(p: u64, date: u64, periods: &[u64], closes: &[u64], amounts: &[i64]) -> OptionalNumber
     requires { ⌜ length (now amounts) ≡ length (now closes) ⌝ }
-    ensures { λ r. ⌜ amountOption r ≡ toDateIn (now (periods .entry)) (now (closes .entry)) (now (amounts .entry)) p date ⌝ }
+    ensures { λ r. ⌜ numberOption r ≡ Option·map bits (toDateIn (now (periods .entry)) (now (closes .entry)) (now (amounts .entry)) p date) ⌝ }
 {
     if is_stored(periods, p) {
         let sum = sum_to(date, closes, amounts);
-        return OptionalAmount::Present(sum);
+        return OptionalNumber::Present(to_bits(sum));
     }
-    OptionalAmount::Absent
+    OptionalNumber::Absent
 }
 
 // The row of period p, which closes at the date, from number `at` on.

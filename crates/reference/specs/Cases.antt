@@ -1,4 +1,4 @@
--- The reference cases of document 01, a table under one theorem: for each, what the definition gives and what it must give.
+-- The thirteen reference cases of document 01, a table under one theorem: for each, what the definition gives and what it must give.
 -- A value that may be absent is no number or one.
 use Prim.Native.Nat.{ℕ}
 use mathlib.Core.Path.{_≡_}
@@ -11,6 +11,9 @@ use Rattle.money.specs.Scale.{inRange, scaledBy, pricedAt}
 use Rattle.floats.specs.Rounding.{rounded, wholeOf}
 use Rattle.floats.specs.Figures.{one, shareOf, earnedOf}
 use Rattle.format.specs.Book.{Price}
+use Rattle.format.specs.declared.EtcTechnique.the-variants.{Cpi, CpiSpi}
+use Rattle.model.specs.declared.Earned.{Earned}
+use Rattle.model.specs.Forecast.{cpi, spi, toEarn, etc}
 use Rattle.model.specs.Lists.{keep}
 use Rattle.model.specs.Costs.{later, priceAmong, priceOn}
 use Rattle.dates.specs.declared.Day.{Day}
@@ -46,6 +49,10 @@ since day z = record { from = some day; perUnit = pos z }
 abbrev pub threePrices : List Price
 threePrices = undated 100 ∷ since 20000 200 ∷ since 20000 300 ∷ []
 
+-- budget 1,000, earned −100, planned 200, actual 100; what remains is not asked for
+abbrev pub earnedBelowZero : Earned
+earnedBelowZero = record { budget = pos 1000; planned = pos 200; earned = minus 100; actual = pos 100; remaining = pos 0 }
+
 abbrev pub dayIn : Day → List ℤ
 dayIn (At z) = z ∷ []
 dayIn Nothing = []
@@ -73,6 +80,9 @@ cases =
     ∷ record { number = 9; gives = alone (earnedOf (minus 5) (shareOf (pos 5000))); expected = alone (minus 3) }
     -- budget 10^16 completed
     ∷ record { number = 10; gives = alone (earnedOf (pos 10000000000000000) one); expected = alone (pos 9000000000000000) }
+    -- budget 1,000, earned −100, planned 200, actual 100: by both indices, and by the first alone
+    ∷ record { number = 11; gives = alone (etc CpiSpi earnedBelowZero); expected = alone (pos 2200) }
+    ∷ record { number = 11; gives = alone (etc Cpi earnedBelowZero); expected = alone (pos 1100) }
     -- 29 February 2000, and 2100
     ∷ record { number = 12; gives = dayIn (fromYmd (pos 2000) 2 29); expected = alone (pos 11016) }
     ∷ record { number = 12; gives = dayIn (fromYmd (pos 2100) 2 29); expected = [] }
@@ -81,5 +91,5 @@ cases =
     ∷ []
 
 pub reference-cases : map (λ (c : Case). c .gives) cases ≡ map (λ (c : Case). c .expected) cases
-unfolding cases later priceAmong priceOn keep shareOfDay sharesFrom inRange scaledBy rounded wholeOf ofInt mul div lt
+unfolding cases later priceAmong priceOn keep shareOfDay sharesFrom inRange scaledBy etc toEarn cpi spi rounded wholeOf ofInt mul div lt
 reference-cases = rw (leap-day-2000, no-leap-day-2100, easter-2024)

@@ -1,1 +1,1 @@
-// Document 01's reference cases, a table under one theorem: specs/Cases.antt.
+// Document 01's thirteen reference cases, a table under one theorem: specs/Cases.antt.

@@ -3,12 +3,15 @@ use crate::books::read_bytes;
 use crate::text;
 use crate::text::Found;
 use crate::vector;
-use engine::Reply;
+use answers::Reply;
 
 // The longest lent slice of a line.
 const MOST: usize = 600;
 
 const EQUALS: u8 = 61;
+
+// What is returned where there is no such call.
+const NO_CALL: u64 = 99;
 
 // The number, and the count of rows or the place.
 struct Returned {
@@ -40,8 +43,8 @@ fn told(reply: Reply) -> Returned {
     }
 }
 
-// What the call of that name answers, asked with two values; 99 where there is no such call.
-fn call(name: &[u8], book: &[u8], first: u64, second: u64, out: &mut [u64]) -> Returned {
+// What the call of that name answers that is asked of the book alone.
+fn plain_call(name: &[u8], book: &[u8], out: &mut [u64]) -> Returned {
     if check::same(name, b"costs") {
         return told(engine::costs(book, out));
     }
@@ -51,19 +54,75 @@ fn call(name: &[u8], book: &[u8], first: u64, second: u64, out: &mut [u64]) -> R
     if check::same(name, b"actual_by_kind") {
         return told(engine::actual_by_kind(book, out));
     }
-    if check::same(name, b"spending") {
-        return told(engine::spending(book, first, second, out));
+    if check::same(name, b"spending_by_month") {
+        return told(engine::spending_by_month(book, out));
     }
+    if check::same(name, b"period_points") {
+        return told(engine::period_points(book, out));
+    }
+    if check::same(name, b"variances") {
+        return told(engine::variances(book, out));
+    }
+    if check::same(name, b"budget") {
+        return told(engine::budget(book, out));
+    }
+    if check::same(name, b"funding") {
+        return told(engine::funding(book, out));
+    }
+    Returned {
+        number: NO_CALL,
+        at: 0,
+    }
+}
+
+// The same for one that is asked with an activity or a date.
+fn call_of_one(name: &[u8], book: &[u8], value: u64, out: &mut [u64]) -> Returned {
     if check::same(name, b"earned_value") {
-        return told(engine::earned_value(book, first, out));
+        return told(engine::earned_value(book, value, out));
     }
     if check::same(name, b"project_earned") {
-        return told(engine::project_earned(book, first, out));
+        return told(engine::project_earned(book, value, out));
+    }
+    if check::same(name, b"performance") {
+        return told(engine::performance(book, value, out));
+    }
+    if check::same(name, b"project_indices") {
+        return told(engine::project_indices(book, value, out));
+    }
+    Returned {
+        number: NO_CALL,
+        at: 0,
+    }
+}
+
+// The same for one that is asked with two dates, or with an activity and a date.
+fn call_of_two(name: &[u8], book: &[u8], first: u64, second: u64, out: &mut [u64]) -> Returned {
+    if check::same(name, b"spending") {
+        return told(engine::spending(book, first, second, out));
     }
     if check::same(name, b"planned_curve") {
         return told(engine::planned_curve(book, first, second, out));
     }
-    Returned { number: 99, at: 0 }
+    if check::same(name, b"indices") {
+        return told(engine::indices(book, first, second, out));
+    }
+    Returned {
+        number: NO_CALL,
+        at: 0,
+    }
+}
+
+// What the call of that name answers, asked with as many of the two values as it takes.
+fn call(name: &[u8], book: &[u8], first: u64, second: u64, out: &mut [u64]) -> Returned {
+    let plain = plain_call(name, book, out);
+    if plain.number != NO_CALL {
+        return plain;
+    }
+    let of_one = call_of_one(name, book, first, out);
+    if of_one.number != NO_CALL {
+        return of_one;
+    }
+    call_of_two(name, book, first, second, out)
 }
 
 // Where a line goes on after a number, if it stands at `at`; else nothing.

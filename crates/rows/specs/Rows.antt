@@ -15,7 +15,7 @@ unfoldable pub placed : ℕ → ℕ → List ℤ → List ℕ → List ℕ
 placed width at [] out = out
 placed width at (x ∷ xs) out = placed width (at + width) xs (set out at (bits x))
 
--- a figure that may be absent: 0 and 0, or 1 and the figure in two's complement
-unfoldable pub optionalBits : Option ℤ → List ℕ
-optionalBits none = 0 ∷ 0 ∷ []
-optionalBits (some z) = 1 ∷ bits z ∷ []
+-- what may be absent: 0 and 0, or 1 and it
+unfoldable pub optional : Option ℕ → List ℕ
+optional none = 0 ∷ 0 ∷ []
+optional (some n) = 1 ∷ n ∷ []

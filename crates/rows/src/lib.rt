@@ -1,11 +1,11 @@
-// Rows of numbers in lent memory: one column at a time, and a figure that may be absent.
+// Rows of numbers in lent memory: one column at a time, and a number that may be absent.
 ghost use mathlib.Core.Path.{_≡_};
 ghost use Prim.Native.Nat.{_+_, _*_, _≤_, _<_};
 ghost use lib.ListN.{length};
 ghost use lib.Seq.{sets};
-ghost use Rattle.fields.specs.Optional.{amountOption};
-ghost use Rattle.rows.specs.Rows.{placed, optionalBits};
-use fields::OptionalAmount;
+ghost use Rattle.fields.specs.Optional.{numberOption};
+ghost use Rattle.rows.specs.Rows.{placed, optional};
+use fields::OptionalNumber;
 use money::words::to_bits;
 
 // Puts a column's figures into rows of `width` numbers, each as number `at` of its row.
@@ -23,19 +23,19 @@ pub fn put_column(column: &[i64], width: usize, at: usize, out: &mut [u64])
     }
 }
 
-// Puts a figure that may be absent, as numbers `at` and `at` + 1.
-pub fn put_optional(figure: OptionalAmount, at: usize, out: &mut [u64])
+// Puts a number that may be absent, as numbers `at` and `at` + 1.
+pub fn put_optional(number: OptionalNumber, at: usize, out: &mut [u64])
     requires { ⌜ at + 1 < length (now out) ⌝ }
-    ensures { λ r. ⌜ now (out .exit) ≡ sets (now (out .entry)) at (optionalBits (amountOption figure)) ⌝ }
+    ensures { λ r. ⌜ now (out .exit) ≡ sets (now (out .entry)) at (optional (numberOption number)) ⌝ }
 {
-    match figure {
-        OptionalAmount::Absent => {
+    match number {
+        OptionalNumber::Absent => {
             out[at] = 0;
             out[at + 1] = 0;
         }
-        OptionalAmount::Present(z) => {
+        OptionalNumber::Present(n) => {
             out[at] = 1;
-            out[at + 1] = to_bits(z);
+            out[at + 1] = n;
         }
     }
 }

@@ -3,7 +3,6 @@ use Prim.Native.Nat.{ℕ, _+_, _-_, _≤_, _<_}
 use mathlib.Core.Path.{_≡_, sym, ap, _∙_, subst}
 use mathlib.Core.Bool.{true, false}
 use mathlib.Core.List.{List, _++_, map}
-use mathlib.Core.Option.{Option, none, some}
 use native.Mathlib.Omega.{arith}
 use native.Mathlib.Decide.{decLt}
 use borrow.Author.Tests.{lt-ltb, le-ltb}
@@ -11,29 +10,23 @@ use lib.Dec.{ltb}
 use lib.IntN.{ℤ, pos}
 use lib.ListN.{length, getD, take, length-append, length-map, List·getD-append}
 use lib.Seq.{sets, length-sets, length-take-le, getD-append-add, getD-take}
-use Rattle.format.specs.declared.Pos.the-variants.{At}
 use Rattle.format.specs.declared.Accrual.the-variants.{Start}
-use Rattle.format.specs.Inverse.{Given}
 use Rattle.format.specs.Enumeration.{accrualNumber}
 use Rattle.format.specs.Book.{Assignment, Expense}
 use Rattle.format.specs.Format as layout
-use Rattle.format.specs.InRange.{ResourceInRange}
 use Rattle.format.specs.Verdict.{content}
-use Rattle.format.proofs.Theorems.{content-in-range}
 use Rattle.fields.specs.declared.OptionalNumber.{OptionalNumber}
 use Rattle.book.specs.declared.layout.Plan.{Plan}
 use Rattle.book.specs.Places.{placesIn}
 use Rattle.book.specs.Plan.{IsPlanOf}
-use Rattle.book.proofs.Plan.{resources-count, assignments-count, expenses-count, assignments-in-range}
-use Rattle.model.specs.Lookup.{noResource, resourceAt}
+use Rattle.book.proofs.Plan.{assignments-count, expenses-count}
 use Rattle.tree.proofs.Walks.{at-map}
-use Rattle.spending.specs.Charges.{Charge, work, cost, charges, ownerOf, sourceBy, sourceOf, IsWork, IsCharge, AreCharges}
+use Rattle.charges.specs.Assigned.{noAssignment, assignmentAt, ownerOf, sourceOf}
+use Rattle.charges.proofs.Assigning.{at-source, in-range}
+use Rattle.spending.specs.Charges.{Charge, work, cost, charges, IsWork, IsCharge, AreCharges}
 use Rattle.spending.proofs.Setting.{entry-first, entry-second}
 
--- what stands where there is none
-abbrev noAssignment : Assignment
-noAssignment = record { activity = 0; resource = none; planned = pos 0; actual = pos 0; remaining = pos 0 }
-
+-- what stands for an expense where there is none
 abbrev noExpense : Expense
 noExpense = record { activity = 0; accrual = Start; planned = pos 0; actual = pos 0; remaining = pos 0 }
 
@@ -67,32 +60,16 @@ module _ {B : Type 0} (xs : List Assignment) (ys : List Expense) (a : ℕ) (is :
     column-long : length column ≡ length u
     column-long = ap length e ∙ length-sets (sets u 0 (map f xs)) a (map g ys) ∙ length-sets u 0 (map f xs)
 
-given-some : (P : ℕ → Type 0) (o : Option ℕ) (r : ℕ) → Given P o → o ≡ some r → P r
-given-some P o r g e = subst (Given P) e g
-
 module _ {s : List ℕ} {date : OptionalNumber} {plan : Plan} (p : IsPlanOf s date plan) (t places : List ℕ) (room : plan .resources .count ≤ length t)
     (index : places ≡ sets t 0 (placesIn layout.resource s (plan .resources)))
   where
-    -- the resource of an assignment is what is read at its entry's place
-    resource-is : (k : ℕ) → k < length (content s .assignments) → (source : ℕ) → let x = getD (content s .assignments) k noAssignment in
-        source ≡ sourceOf places x → (r : ℕ) → x .resource ≡ some r → (resourceAt (content s) r ≡ layout.resource .read s (At source) .0) × (r < length (content s .resources))
-    resource-is k h source e r g =
-        let x = getD (content s .assignments) k noAssignment in
-        let below = given-some (λ (i : ℕ). i < plan .resources .count) (x .resource) r (assignments-in-range p k noAssignment h .resource) g in (
-          p .resources .at t r noResource room below
-              ∙ sym (ap (λ (i : ℕ). layout.resource .read s (At i) .0) (e ∙ ap (sourceBy places) g ∙ ap (λ (l : List ℕ). getD l r 0) index)),
-          omega (arith, resources-count p),
-        )
-
-    work-is : (k : ℕ) → k < length (content s .assignments) → (owner source : ℕ) (amount : ℤ) → let x = getD (content s .assignments) k noAssignment in
+    work-is : (k : ℕ) → k < length (content s .assignments) → (owner source : ℕ) (amount : ℤ) → let x = assignmentAt (content s) k in
         owner ≡ ownerOf x → source ≡ sourceOf places x → amount ≡ x .planned → IsWork s x owner source amount
     work-is k h owner source amount e f g =
         record {
           owned = e;
-          placed = λ r q. resource-is k h source f r q .0;
-          ranged = λ r q.
-              let is = resource-is k h source f r q in
-              subst ResourceInRange (is .0) (content-in-range s (p .accepted) .resources r noResource (is .1));
+          placed = λ r q. at-source p t places room index k source r h f q;
+          ranged = λ r q. in-range p t places room index k source r h f q;
           planned = g;
         }
 

@@ -1,23 +1,27 @@
 -- The points of what is laid onto empty tables, and the points between two dates where nothing falls outside a stretch.
 use Prim.Native.Nat.{ℕ, zero, suc, _+_, _-_, _*_, _≤_, _<_, min, max}
-use mathlib.Core.Path.{_≡_, refl, ap, ap₂, _∙_}
-use mathlib.Core.Bool.{Bool, true, false, cond}
+use mathlib.Core.Path.{_≡_, refl, sym, ap, ap₂, _∙_}
+use mathlib.Core.Bool.{Bool, true, false, cond, _&&_}
 use mathlib.Core.List.{List, _∷_, map}
 use native.Mathlib.Nat.{mul-le-mul-right}
 use native.Mathlib.Omega.{arith}
-use lib.Dec.{eqb}
+use borrow.Author.Tests.{leb-true}
+use lib.Dec.{eqb, leb}
 use lib.IntN.{ℤ, pos}
 use lib.ListN.{length, getD, replicate, length-replicate, getD-replicate}
 use mir.Syntax.{w64}
 use Rattle.integer.specs.Folds.{saturated}
+use Rattle.gregorian.proofs.Laws.{and-both}
 use Rattle.model.specs.Lists.{span, consIf, keep}
 use Rattle.model.specs.Days.{datesBetween}
 use Rattle.model.specs.Amounts.{Dated, on, amounts, saturatedSum, isDated, isCharged, pointOn, pointsBetween}
 use Rattle.model.proofs.Lists.{keep-rises, rising-same}
 use Rattle.model.proofs.Days.{kept-between, between-kept}
 use Rattle.calendar.specs.Tables.{works}
+use Rattle.activities.specs.declared.Stretch.{Stretch}
 use Rattle.spending.specs.Laid.{Laid}
 use Rattle.spending.specs.Listed.{Covers}
+use Rattle.spending.specs.Charges.{rowOf, AreTables}
 use Rattle.spending.specs.Rows.{sumOn, markedSums}
 use Rattle.spending.proofs.Laying.{sum-of, mark-of}
 use Rattle.spending.proofs.Spanning.{keep-alike}
@@ -36,12 +40,12 @@ map-alike {B} f g p first last h = go first (last + 1 - first) (λ d a b. h d a 
         one true rest = ap₂ _∷_ (h a (omega arith) (omega arith)) rest
         one false rest = rest
 
--- tables of n and of m dates from lo on, empty before
-module _ (lo hi n m : ℕ) (xs : List Dated) {sums : List ℤ} {marks : List ℕ} (l : Laid lo xs (replicate n (pos 0)) (replicate m 0) sums marks) (room : hi < lo + n) (enough : hi < lo + m) where
+-- tables of n dates from lo on, empty before
+module _ (lo hi n : ℕ) (xs : List Dated) {sums : List ℤ} {marks : List ℕ} (l : Laid lo xs (replicate n (pos 0)) (replicate n 0) sums marks) (room : hi < lo + n) where
   mark-is : (d : ℕ) → lo ≤ d → d ≤ hi → works lo marks d ≡ isCharged xs d
   mark-is d h k =
       ap (λ (t : List ℕ). eqb (getD t (d - lo) 0) 1) (l .marked)
-      ∙ ap (λ (v : ℕ). eqb v 1) (mark-of lo d h (replicate m 0) xs (omega (arith, length-replicate {A = ℕ} m 0)) ∙ ap (cond (isCharged xs d) 1) (getD-replicate m (d - lo) 0 0 (omega arith)))
+      ∙ ap (λ (v : ℕ). eqb v 1) (mark-of lo d h (replicate n 0) xs (omega (arith, length-replicate {A = ℕ} n 0)) ∙ ap (cond (isCharged xs d) 1) (getD-replicate n (d - lo) 0 0 (omega arith)))
       ∙ one (isCharged xs d)
     where
       one : (b : Bool) → eqb (cond b 1 0) 1 ≡ b
@@ -56,7 +60,7 @@ module _ (lo hi n m : ℕ) (xs : List Dated) {sums : List ℤ} {marks : List ℕ
       ∙ sum-of lo d h (replicate n (pos 0)) xs (omega (arith, length-replicate n (pos 0)))
       ∙ ap (λ (z : ℤ). saturated w64 z (amounts (keep (isDated d) xs))) (getD-replicate n (d - lo) (pos 0) (pos 0) (omega arith)))
 
-  pub points-laid : markedSums lo hi sums marks ≡ pointsBetween xs lo hi
+  points-laid : markedSums lo hi sums marks ≡ pointsBetween xs lo hi
   unfolding markedSums pointsBetween
   points-laid =
       ap (map (sumOn lo sums)) (keep-alike (works lo marks) (isCharged xs) lo hi mark-is)
@@ -85,6 +89,40 @@ reaches lo e h = omega arith
 pub table-covers : {marks : List ℕ} {n lo hi : ℕ} → length marks ≡ n → hi < lo + n → hi ≤ 47481 → Covers lo marks lo hi
 table-covers {lo} e h l = record { start = omega arith; reach = reaches lo e h; latest = l }
 
--- 16 calendars of all dates of a book
+-- where the dates of a stretch are not more
+pub within-reach : (base end lo hi n : ℕ) → end + 1 - base ≤ n → base ≤ end + 1 → base ≤ lo → hi ≤ end → hi < lo + n
+within-reach base end lo hi n w a b c = omega arith
+
+-- small tables, by the test of `is_small`
+pub small-room : (calendars width : ℕ) {b : Bool} → b ≡ (leb width 1024 && leb (calendars * width) 4096) → b ≡ true → (width ≤ 1024) × (calendars * width ≤ 4096)
+small-room calendars width e t =
+    let both = and-both (leb width 1024) (leb (calendars * width) 4096) (sym e ∙ t) in
+    (leb-true width 1024 (both .0), leb-true (calendars * width) 4096 (both .1))
+
+-- all dates of a book, and 16 calendars of them
+pub full-width : (from to : ℕ) → 10957 ≤ from → to ≤ 47481 → to + 1 - from ≤ 36525
+full-width from to h k = omega arith
+
 pub full-room : (calendars width : ℕ) → calendars ≤ 16 → width ≤ 36525 → calendars * width ≤ 584400
 full-room calendars width h l = omega (arith, mul-le-mul-right width h)
+
+-- tables of m bytes and n dates, as they are before anything is set
+pub tables-empty : (known : Stretch) (calendars lo hi m n : ℕ) → rowOf known calendars ≤ m → hi < lo + n → AreTables known calendars lo hi (replicate m 0) (replicate n (pos 0)) (replicate n 0)
+tables-empty known calendars lo hi m n h k = record { room = rw (length-replicate {A = ℕ} m 0) h; size = n; reach = k; noSums = refl; noMarks = refl }
+
+module _ {known : Stretch} {calendars lo hi : ℕ} {days : List ℕ} {sums : List ℤ} {marks : List ℕ} (t : AreTables known calendars lo hi days sums marks) where
+  pub table-sums : length sums ≡ t .size
+  table-sums = ap length (t .noSums) ∙ length-replicate (t .size) (pos 0)
+
+  pub table-marks : length marks ≡ t .size
+  table-marks = ap length (t .noMarks) ∙ length-replicate {A = ℕ} (t .size) 0
+
+  -- they reach each date up to `hi`
+  pub table-reach : (date : ℕ) → date ≤ hi → date < lo + t .size
+  table-reach date h = omega (arith, t .reach)
+
+  -- what is laid onto them makes the points
+  pub points-tabled : (xs : List Dated) {sums₁ : List ℤ} {marks₁ : List ℕ} → Laid lo xs sums marks sums₁ marks₁ → (last : ℕ) → last ≤ hi → markedSums lo last sums₁ marks₁ ≡ pointsBetween xs lo last
+  points-tabled xs {sums₁} {marks₁} l last h =
+      let afresh : Laid lo xs (replicate (t .size) (pos 0)) (replicate (t .size) 0) sums₁ marks₁ = rw (t .noSums, t .noMarks) at l in
+      points-laid lo last (t .size) xs afresh (table-reach last h)

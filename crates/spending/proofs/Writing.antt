@@ -1,6 +1,6 @@
 -- Rows of points: how many numbers they are, and what a loop keeps that writes them.
 use Prim.Native.Nat.{ℕ, _+_, _-_, _*_, _≤_, _<_}
-use mathlib.Core.Path.{_≡_, refl, sym, ap, _∙_}
+use mathlib.Core.Path.{_≡_, refl, sym, ap, _∙_, subst}
 use mathlib.Core.Bool.{Bool, true, false, cond}
 use mathlib.Core.List.{List, [], _∷_, _++_, map, flatMap, map-append}
 use native.Mathlib.Numerals.{add-one}
@@ -14,7 +14,7 @@ use Rattle.model.specs.Lists.{consIf}
 use Rattle.model.specs.Amounts.{Dated, on}
 use Rattle.calendar.specs.Tables.{works}
 use Rattle.spending.specs.Listed.{workedBetween}
-use Rattle.spending.specs.Rows.{pointRow, pointRows, written, sumOn, markedSums}
+use Rattle.spending.specs.Rows.{pointRow, pointRows, written, Writes, sumOn, markedSums}
 use Rattle.spending.proofs.Dates.{one-first, none-left}
 use Rattle.spending.proofs.Charging.{flatMap-append}
 use Rattle.spending.proofs.Setting.{sets-append, set-front}
@@ -79,3 +79,12 @@ written-long rows out h = sym (ap (λ (b : Bool). cond b (rows ++ drop (length r
 
 pub written-none : (out : List ℕ) → out ≡ written [] out
 written-none out = written-fits [] out (omega arith)
+
+-- none are written where there are no points
+pub no-rows : {xs : List Dated} (out : List ℕ) → xs ≡ [] → Writes (pointRows xs) 0 out out
+unfolding pointRows flatMap
+no-rows out none = (sym (ap (λ (l : List Dated). length (pointRows l)) none), written-none out ∙ sym (ap (λ (l : List Dated). written (pointRows l) out) none))
+
+-- the same rows under another name
+pub writes-same : (before : List ℕ) {rows rows′ : List ℕ} {count : ℕ} {after : List ℕ} → rows ≡ rows′ → Writes rows count before after → Writes rows′ count before after
+writes-same before {count} {after} e w = subst (λ (rows : List ℕ). Writes rows count before after) e w

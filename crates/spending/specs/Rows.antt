@@ -1,5 +1,6 @@
 -- The points as rows of numbers, and what a call leaves in the numbers that are lent to it.
 use Prim.Native.Nat.{ℕ, _-_}
+use mathlib.Core.Path.{_≡_}
 use mathlib.Core.Bool.{cond}
 use mathlib.Core.List.{List, [], _∷_, _++_, map, flatMap}
 use lib.Dec.{leb}
@@ -22,6 +23,10 @@ pointRows xs = flatMap pointRow xs
 -- the rows before what is left of the numbers, where they fit; else the numbers
 unfoldable pub written : List ℕ → List ℕ → List ℕ
 written rows out = cond (leb (length rows) (length out)) (rows ++ drop (length rows) out) out
+
+-- a call that writes rows where they fit, and says how many numbers they are
+abbrev pub Writes : List ℕ → ℕ → List ℕ → List ℕ → Type 0
+Writes rows count before after = (count ≡ length rows) × (after ≡ written rows before)
 
 -- the dates between two that are marked, each with its sum, by tables that begin at the date `lo`
 abbrev pub sumOn : ℕ → List ℤ → ℕ → Dated

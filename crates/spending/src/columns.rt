@@ -3,7 +3,8 @@ use book::Section;
 use book::elements::Element;
 use book::layout::Plan;
 use book::places::index_places;
-use fields::OptionalNumber;
+use charges::owner_of;
+use charges::source_of;
 use format::Accrual;
 use records::activities::read_assignment;
 use records::activities::read_expense;
@@ -15,33 +16,10 @@ ghost use lib.Seq.{sets};
 ghost use Rattle.format.specs.Book as content;
 ghost use Rattle.format.specs.Enumeration.{accrualNumber};
 ghost use Rattle.format.specs.Format as layout;
-ghost use Rattle.fields.specs.Optional.{numberOption};
 ghost use Rattle.book.specs.Sections.{alikeIn};
-ghost use Rattle.spending.specs.Charges.{ownerBy, sourceBy, ownerOf, sourceOf, AreCharges};
+ghost use Rattle.charges.specs.Assigned.{ownerOf, sourceOf};
+ghost use Rattle.spending.specs.Charges.{AreCharges};
 ghost use Rattle.spending.specs.Planned.{IsPlan};
-
-// Whom an assignment is charged to: none without a resource.
-fn owner_of(resource: OptionalNumber, activity: u64) -> u64
-    ensures { λ r. ⌜ r ≡ ownerBy (numberOption resource) activity ⌝ }
-{
-    match resource {
-        OptionalNumber::Absent => 500,
-        OptionalNumber::Present(_) => activity,
-    }
-}
-
-// The place of a resource.
-fn source_of(resource: OptionalNumber, places: &[u64]) -> u64
-    ensures { λ r. ⌜ r ≡ sourceBy (now (places .entry)) (numberOption resource) ⌝ }
-{
-    match resource {
-        OptionalNumber::Absent => 0,
-        OptionalNumber::Present(r) => {
-            let i = r as usize;
-            if i < places.len() { places[i] } else { 0 }
-        }
-    }
-}
 
 fn accrual_number(accrual: Accrual) -> u64
     ensures { λ r. ⌜ r ≡ accrualNumber accrual ⌝ }

@@ -20,12 +20,12 @@ ghost use Rattle.book.specs.Plan.{IsPlanOf};
 ghost use Rattle.model.specs.Amounts.{pointsBetween};
 ghost use Rattle.model.specs.Costs.{budgetByDay, spendingBetween};
 ghost use Rattle.activities.specs.Stretches as stretches;
-ghost use Rattle.spending.specs.Charges.{rowOf};
+ghost use Rattle.spending.specs.Charges.{rowOf, AreTables};
 ghost use Rattle.spending.specs.Listed.{Covers};
-ghost use Rattle.spending.specs.Rows.{pointRows, written, markedSums, grained};
+ghost use Rattle.spending.specs.Rows.{pointRows, written, Writes, markedSums, grained};
 ghost use Rattle.spending.specs.Planned.{IsSpanned};
 
-pub mod charges;
+pub mod charged;
 pub mod columns;
 pub mod days;
 pub mod deal;
@@ -46,8 +46,7 @@ pub enum Grain {
 fn write_rows(grain: Grain, lo: u64, hi: u64, sums: &[i64], marks: &[u8], out: &mut [u64]) -> u64
     requires { ⌜ Covers lo (now marks) lo hi ⌝ }
     requires { ⌜ hi < lo + length (now sums) ⌝ }
-    ensures { λ r. ⌜ r ≡ length (pointRows (grained grain (markedSums lo hi (now (sums .entry)) (now (marks .entry))))) ⌝ }
-    ensures { λ r. ⌜ now (out .exit) ≡ written (pointRows (grained grain (markedSums lo hi (now (sums .entry)) (now (marks .entry))))) (now (out .entry)) ⌝ }
+    ensures { λ r. ⌜ Writes (pointRows (grained grain (markedSums lo hi (now (sums .entry)) (now (marks .entry))))) r (now (out .entry)) (now (out .exit)) ⌝ }
 {
     match grain {
         Grain::Day => write_points(lo, hi, sums, marks, out),
@@ -55,7 +54,32 @@ fn write_rows(grain: Grain, lo: u64, hi: u64, sums: &[i64], marks: &[u8], out: &
     }
 }
 
-// The rows between two dates, by small tables: for the dates, and for the days of all calendars.
+// The rows between two dates, by lent tables: for the days of all calendars, and for the dates.
+fn rows_in(
+    book: &[u8],
+    plan: Plan,
+    firsts: &[u64],
+    lasts: &[u64],
+    known: Stretch,
+    grain: Grain,
+    lo: u64,
+    hi: u64,
+    days: &mut [u8],
+    sums: &mut [i64],
+    marks: &mut [u8],
+    out: &mut [u64],
+) -> u64
+    requires { ⌜ IsSpanned (now book) plan (now firsts) (now lasts) ⌝ }
+    requires { ⌜ stretches.Covers (now firsts) (now lasts) known ⌝ }
+    requires { ⌜ AreTables known (plan .calendars .count) lo hi (now days) (now sums) (now marks) ⌝ }
+    requires { ⌜ hi ≤ 47481 ⌝ }
+    ensures { λ r. ⌜ Writes (pointRows (grained grain (pointsBetween (budgetByDay (content (now (book .entry)))) lo hi))) r (now (out .entry)) (now (out .exit)) ⌝ }
+{
+    lay_budgets(book, plan, firsts, lasts, known, days, lo, sums, marks);
+    write_rows(grain, lo, hi, sums, marks, out)
+}
+
+// The same, by small tables.
 fn small_rows(
     book: &[u8],
     plan: Plan,
@@ -70,24 +94,25 @@ fn small_rows(
     requires { ⌜ IsSpanned (now book) plan (now firsts) (now lasts) ⌝ }
     requires { ⌜ stretches.Covers (now firsts) (now lasts) known ⌝ }
     requires { ⌜ (rowOf known (plan .calendars .count) ≤ 4096) × (hi < lo + 1024) × (hi ≤ 47481) ⌝ }
-    ensures { λ r. ⌜ r ≡ length (pointRows (grained grain (pointsBetween (budgetByDay (content (now (book .entry)))) lo hi))) ⌝ }
-    ensures { λ r. ⌜ now (out .exit) ≡ written (pointRows (grained grain (pointsBetween (budgetByDay (content (now (book .entry)))) lo hi))) (now (out .entry)) ⌝ }
+    ensures { λ r. ⌜ Writes (pointRows (grained grain (pointsBetween (budgetByDay (content (now (book .entry)))) lo hi))) r (now (out .entry)) (now (out .exit)) ⌝ }
 {
     let mut days = [0u8; 4096];
     let mut sums = [0i64; 1024];
     let mut marks = [0u8; 1024];
-    lay_budgets(
+    rows_in(
         book,
         plan,
         firsts,
         lasts,
         known,
-        &mut days,
+        grain,
         lo,
+        hi,
+        &mut days,
         &mut sums,
         &mut marks,
-    );
-    write_rows(grain, lo, hi, &sums, &marks, out)
+        out,
+    )
 }
 
 // The same, by tables for all dates of a book and as many calendars as it may have.
@@ -105,24 +130,25 @@ fn full_rows(
     requires { ⌜ IsSpanned (now book) plan (now firsts) (now lasts) ⌝ }
     requires { ⌜ stretches.Covers (now firsts) (now lasts) known ⌝ }
     requires { ⌜ (rowOf known (plan .calendars .count) ≤ 584400) × (hi < lo + 36525) × (hi ≤ 47481) ⌝ }
-    ensures { λ r. ⌜ r ≡ length (pointRows (grained grain (pointsBetween (budgetByDay (content (now (book .entry)))) lo hi))) ⌝ }
-    ensures { λ r. ⌜ now (out .exit) ≡ written (pointRows (grained grain (pointsBetween (budgetByDay (content (now (book .entry)))) lo hi))) (now (out .entry)) ⌝ }
+    ensures { λ r. ⌜ Writes (pointRows (grained grain (pointsBetween (budgetByDay (content (now (book .entry)))) lo hi))) r (now (out .entry)) (now (out .exit)) ⌝ }
 {
     let mut days = [0u8; 584400];
     let mut sums = [0i64; 36525];
     let mut marks = [0u8; 36525];
-    lay_budgets(
+    rows_in(
         book,
         plan,
         firsts,
         lasts,
         known,
-        &mut days,
+        grain,
         lo,
+        hi,
+        &mut days,
         &mut sums,
         &mut marks,
-    );
-    write_rows(grain, lo, hi, &sums, &marks, out)
+        out,
+    )
 }
 
 // Whether the small tables have room for so many calendars, each of so many dates.
@@ -151,8 +177,7 @@ fn rows_between(
     requires { ⌜ IsSpanned (now book) plan (now firsts) (now lasts) ⌝ }
     requires { ⌜ stretches.Covers (now firsts) (now lasts) known ⌝ }
     requires { ⌜ (known .from ≤ lo) × (hi ≤ known .to) ⌝ }
-    ensures { λ r. ⌜ r ≡ length (pointRows (grained grain (pointsBetween (budgetByDay (content (now (book .entry)))) lo hi))) ⌝ }
-    ensures { λ r. ⌜ now (out .exit) ≡ written (pointRows (grained grain (pointsBetween (budgetByDay (content (now (book .entry)))) lo hi))) (now (out .entry)) ⌝ }
+    ensures { λ r. ⌜ Writes (pointRows (grained grain (pointsBetween (budgetByDay (content (now (book .entry)))) lo hi))) r (now (out .entry)) (now (out .exit)) ⌝ }
 {
     if hi < lo {
         return 0;
@@ -176,8 +201,7 @@ fn rows_of(
     out: &mut [u64],
 ) -> u64
     requires { ⌜ IsSpanned (now book) plan (now firsts) (now lasts) ⌝ }
-    ensures { λ r. ⌜ r ≡ length (pointRows (grained grain (spendingBetween (content (now (book .entry))) from to))) ⌝ }
-    ensures { λ r. ⌜ now (out .exit) ≡ written (pointRows (grained grain (spendingBetween (content (now (book .entry))) from to))) (now (out .entry)) ⌝ }
+    ensures { λ r. ⌜ Writes (pointRows (grained grain (spendingBetween (content (now (book .entry))) from to))) r (now (out .entry)) (now (out .exit)) ⌝ }
 {
     let known = stretch(firsts, lasts);
     let lo = later(from, known.from);

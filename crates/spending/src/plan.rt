@@ -1,5 +1,5 @@
 // What is charged to the activities of a plan, laid onto tables by date.
-use crate::charges::lay_activities;
+use crate::charged::lay_activities;
 use crate::columns::fill_charges;
 use activities::Stretch;
 use activities::columns::fill_calendars;

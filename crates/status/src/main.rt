@@ -8,8 +8,8 @@ ghost use Rattle.status.specs.Asked.{askedAt};
 
 mod text;
 
+use answers::Reply;
 use book::layout::read_layout;
-use engine::Reply;
 use fields::OptionalNumber;
 
 const IN: i32 = 0;

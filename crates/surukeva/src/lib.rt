@@ -3,9 +3,9 @@ ghost use mathlib.Core.List.{[], _∷_};
 ghost use mathlib.Core.Path.{_≡_};
 ghost use lib.ListN.{length};
 ghost use Rattle.format.specs.Verdict.{verdict, answerOf, answerNumber, answerPlace};
-ghost use Rattle.engine.specs.Rows.{costsRows, projectCostRows, actualByKindRows, spendingRows, earnedValueRows, projectEarnedRows, plannedCurveRows};
-ghost use Rattle.engine.specs.Calls.{reply, left, replyNumber, replyPlace};
-use engine::Reply;
+ghost use Rattle.answers.specs.Rows.{costsRows, projectCostRows, actualByKindRows, spendingRows, spendingByMonthRows, earnedValueRows, projectEarnedRows, plannedCurveRows, performanceRows, indicesRows, projectIndicesRows, periodPointsRows, variancesRows, budgetRows, fundingRows};
+ghost use Rattle.answers.specs.Calls.{asks, reply, left, replyNumber, replyPlace};
+use answers::Reply;
 use format::Answer;
 
 // Whether the book is accepted: its number, and in `at` its place.
@@ -45,9 +45,9 @@ fn give(answer: Reply, at: &mut u64) -> u64
 // Each activity's costs.
 #[no_mangle]
 pub extern "C" fn surukeva_costs(book: &[u8], out: &mut [u64], at: &mut u64) -> u64
-    ensures { λ r. ⌜ r ≡ replyNumber (reply [] costsRows (now (book .entry)) (length (now (out .entry)))) ⌝ }
-    ensures place { λ r. ⌜ now (at .exit) ≡ replyPlace (reply [] costsRows (now (book .entry)) (length (now (out .entry)))) ⌝ }
-    ensures lent { λ r. ⌜ now (out .exit) ≡ left [] costsRows (now (book .entry)) (now (out .entry)) ⌝ }
+    ensures { λ r. ⌜ r ≡ replyNumber (reply (asks [] []) costsRows (now (book .entry)) (length (now (out .entry)))) ⌝ }
+    ensures place { λ r. ⌜ now (at .exit) ≡ replyPlace (reply (asks [] []) costsRows (now (book .entry)) (length (now (out .entry)))) ⌝ }
+    ensures lent { λ r. ⌜ now (out .exit) ≡ left (asks [] []) costsRows (now (book .entry)) (now (out .entry)) ⌝ }
 {
     let answer = engine::costs(book, out);
     give(answer, at)
@@ -56,9 +56,9 @@ pub extern "C" fn surukeva_costs(book: &[u8], out: &mut [u64], at: &mut u64) -> 
 // The project's costs.
 #[no_mangle]
 pub extern "C" fn surukeva_project_cost(book: &[u8], out: &mut [u64], at: &mut u64) -> u64
-    ensures { λ r. ⌜ r ≡ replyNumber (reply [] projectCostRows (now (book .entry)) (length (now (out .entry)))) ⌝ }
-    ensures place { λ r. ⌜ now (at .exit) ≡ replyPlace (reply [] projectCostRows (now (book .entry)) (length (now (out .entry)))) ⌝ }
-    ensures lent { λ r. ⌜ now (out .exit) ≡ left [] projectCostRows (now (book .entry)) (now (out .entry)) ⌝ }
+    ensures { λ r. ⌜ r ≡ replyNumber (reply (asks [] []) projectCostRows (now (book .entry)) (length (now (out .entry)))) ⌝ }
+    ensures place { λ r. ⌜ now (at .exit) ≡ replyPlace (reply (asks [] []) projectCostRows (now (book .entry)) (length (now (out .entry)))) ⌝ }
+    ensures lent { λ r. ⌜ now (out .exit) ≡ left (asks [] []) projectCostRows (now (book .entry)) (now (out .entry)) ⌝ }
 {
     let answer = engine::project_cost(book, out);
     give(answer, at)
@@ -67,9 +67,9 @@ pub extern "C" fn surukeva_project_cost(book: &[u8], out: &mut [u64], at: &mut u
 // Each activity's own actual cost by kind.
 #[no_mangle]
 pub extern "C" fn surukeva_actual_by_kind(book: &[u8], out: &mut [u64], at: &mut u64) -> u64
-    ensures { λ r. ⌜ r ≡ replyNumber (reply [] actualByKindRows (now (book .entry)) (length (now (out .entry)))) ⌝ }
-    ensures place { λ r. ⌜ now (at .exit) ≡ replyPlace (reply [] actualByKindRows (now (book .entry)) (length (now (out .entry)))) ⌝ }
-    ensures lent { λ r. ⌜ now (out .exit) ≡ left [] actualByKindRows (now (book .entry)) (now (out .entry)) ⌝ }
+    ensures { λ r. ⌜ r ≡ replyNumber (reply (asks [] []) actualByKindRows (now (book .entry)) (length (now (out .entry)))) ⌝ }
+    ensures place { λ r. ⌜ now (at .exit) ≡ replyPlace (reply (asks [] []) actualByKindRows (now (book .entry)) (length (now (out .entry)))) ⌝ }
+    ensures lent { λ r. ⌜ now (out .exit) ≡ left (asks [] []) actualByKindRows (now (book .entry)) (now (out .entry)) ⌝ }
 {
     let answer = engine::actual_by_kind(book, out);
     give(answer, at)
@@ -84,11 +84,22 @@ pub extern "C" fn surukeva_spending(
     out: &mut [u64],
     at: &mut u64,
 ) -> u64
-    ensures { λ r. ⌜ r ≡ replyNumber (reply (from ∷ to ∷ []) (spendingRows from to) (now (book .entry)) (length (now (out .entry)))) ⌝ }
-    ensures place { λ r. ⌜ now (at .exit) ≡ replyPlace (reply (from ∷ to ∷ []) (spendingRows from to) (now (book .entry)) (length (now (out .entry)))) ⌝ }
-    ensures lent { λ r. ⌜ now (out .exit) ≡ left (from ∷ to ∷ []) (spendingRows from to) (now (book .entry)) (now (out .entry)) ⌝ }
+    ensures { λ r. ⌜ r ≡ replyNumber (reply (asks [] (from ∷ to ∷ [])) (spendingRows from to) (now (book .entry)) (length (now (out .entry)))) ⌝ }
+    ensures place { λ r. ⌜ now (at .exit) ≡ replyPlace (reply (asks [] (from ∷ to ∷ [])) (spendingRows from to) (now (book .entry)) (length (now (out .entry)))) ⌝ }
+    ensures lent { λ r. ⌜ now (out .exit) ≡ left (asks [] (from ∷ to ∷ [])) (spendingRows from to) (now (book .entry)) (now (out .entry)) ⌝ }
 {
     let answer = engine::spending(book, from, to, out);
+    give(answer, at)
+}
+
+// The spending by month.
+#[no_mangle]
+pub extern "C" fn surukeva_spending_by_month(book: &[u8], out: &mut [u64], at: &mut u64) -> u64
+    ensures { λ r. ⌜ r ≡ replyNumber (reply (asks [] []) spendingByMonthRows (now (book .entry)) (length (now (out .entry)))) ⌝ }
+    ensures place { λ r. ⌜ now (at .exit) ≡ replyPlace (reply (asks [] []) spendingByMonthRows (now (book .entry)) (length (now (out .entry)))) ⌝ }
+    ensures lent { λ r. ⌜ now (out .exit) ≡ left (asks [] []) spendingByMonthRows (now (book .entry)) (now (out .entry)) ⌝ }
+{
+    let answer = engine::spending_by_month(book, out);
     give(answer, at)
 }
 
@@ -100,9 +111,9 @@ pub extern "C" fn surukeva_earned_value(
     out: &mut [u64],
     at: &mut u64,
 ) -> u64
-    ensures { λ r. ⌜ r ≡ replyNumber (reply (date ∷ []) (earnedValueRows date) (now (book .entry)) (length (now (out .entry)))) ⌝ }
-    ensures place { λ r. ⌜ now (at .exit) ≡ replyPlace (reply (date ∷ []) (earnedValueRows date) (now (book .entry)) (length (now (out .entry)))) ⌝ }
-    ensures lent { λ r. ⌜ now (out .exit) ≡ left (date ∷ []) (earnedValueRows date) (now (book .entry)) (now (out .entry)) ⌝ }
+    ensures { λ r. ⌜ r ≡ replyNumber (reply (asks [] (date ∷ [])) (earnedValueRows date) (now (book .entry)) (length (now (out .entry)))) ⌝ }
+    ensures place { λ r. ⌜ now (at .exit) ≡ replyPlace (reply (asks [] (date ∷ [])) (earnedValueRows date) (now (book .entry)) (length (now (out .entry)))) ⌝ }
+    ensures lent { λ r. ⌜ now (out .exit) ≡ left (asks [] (date ∷ [])) (earnedValueRows date) (now (book .entry)) (now (out .entry)) ⌝ }
 {
     let answer = engine::earned_value(book, date, out);
     give(answer, at)
@@ -116,15 +127,15 @@ pub extern "C" fn surukeva_project_earned(
     out: &mut [u64],
     at: &mut u64,
 ) -> u64
-    ensures { λ r. ⌜ r ≡ replyNumber (reply (date ∷ []) (projectEarnedRows date) (now (book .entry)) (length (now (out .entry)))) ⌝ }
-    ensures place { λ r. ⌜ now (at .exit) ≡ replyPlace (reply (date ∷ []) (projectEarnedRows date) (now (book .entry)) (length (now (out .entry)))) ⌝ }
-    ensures lent { λ r. ⌜ now (out .exit) ≡ left (date ∷ []) (projectEarnedRows date) (now (book .entry)) (now (out .entry)) ⌝ }
+    ensures { λ r. ⌜ r ≡ replyNumber (reply (asks [] (date ∷ [])) (projectEarnedRows date) (now (book .entry)) (length (now (out .entry)))) ⌝ }
+    ensures place { λ r. ⌜ now (at .exit) ≡ replyPlace (reply (asks [] (date ∷ [])) (projectEarnedRows date) (now (book .entry)) (length (now (out .entry)))) ⌝ }
+    ensures lent { λ r. ⌜ now (out .exit) ≡ left (asks [] (date ∷ [])) (projectEarnedRows date) (now (book .entry)) (now (out .entry)) ⌝ }
 {
     let answer = engine::project_earned(book, date, out);
     give(answer, at)
 }
 
-// The planned curve.
+// The planned curve between two dates.
 #[no_mangle]
 pub extern "C" fn surukeva_planned_curve(
     book: &[u8],
@@ -133,10 +144,103 @@ pub extern "C" fn surukeva_planned_curve(
     out: &mut [u64],
     at: &mut u64,
 ) -> u64
-    ensures { λ r. ⌜ r ≡ replyNumber (reply (from ∷ to ∷ []) (plannedCurveRows from to) (now (book .entry)) (length (now (out .entry)))) ⌝ }
-    ensures place { λ r. ⌜ now (at .exit) ≡ replyPlace (reply (from ∷ to ∷ []) (plannedCurveRows from to) (now (book .entry)) (length (now (out .entry)))) ⌝ }
-    ensures lent { λ r. ⌜ now (out .exit) ≡ left (from ∷ to ∷ []) (plannedCurveRows from to) (now (book .entry)) (now (out .entry)) ⌝ }
+    ensures { λ r. ⌜ r ≡ replyNumber (reply (asks [] (from ∷ to ∷ [])) (plannedCurveRows from to) (now (book .entry)) (length (now (out .entry)))) ⌝ }
+    ensures place { λ r. ⌜ now (at .exit) ≡ replyPlace (reply (asks [] (from ∷ to ∷ [])) (plannedCurveRows from to) (now (book .entry)) (length (now (out .entry)))) ⌝ }
+    ensures lent { λ r. ⌜ now (out .exit) ≡ left (asks [] (from ∷ to ∷ [])) (plannedCurveRows from to) (now (book .entry)) (now (out .entry)) ⌝ }
 {
     let answer = engine::planned_curve(book, from, to, out);
+    give(answer, at)
+}
+
+// How much of an activity is done.
+#[no_mangle]
+pub extern "C" fn surukeva_performance(
+    book: &[u8],
+    activity: u64,
+    out: &mut [u64],
+    at: &mut u64,
+) -> u64
+    ensures { λ r. ⌜ r ≡ replyNumber (reply (asks (activity ∷ []) []) (performanceRows activity) (now (book .entry)) (length (now (out .entry)))) ⌝ }
+    ensures place { λ r. ⌜ now (at .exit) ≡ replyPlace (reply (asks (activity ∷ []) []) (performanceRows activity) (now (book .entry)) (length (now (out .entry)))) ⌝ }
+    ensures lent { λ r. ⌜ now (out .exit) ≡ left (asks (activity ∷ []) []) (performanceRows activity) (now (book .entry)) (now (out .entry)) ⌝ }
+{
+    let answer = engine::performance(book, activity, out);
+    give(answer, at)
+}
+
+// An activity's forecast and indices.
+#[no_mangle]
+pub extern "C" fn surukeva_indices(
+    book: &[u8],
+    activity: u64,
+    date: u64,
+    out: &mut [u64],
+    at: &mut u64,
+) -> u64
+    ensures { λ r. ⌜ r ≡ replyNumber (reply (asks (activity ∷ []) (date ∷ [])) (indicesRows activity date) (now (book .entry)) (length (now (out .entry)))) ⌝ }
+    ensures place { λ r. ⌜ now (at .exit) ≡ replyPlace (reply (asks (activity ∷ []) (date ∷ [])) (indicesRows activity date) (now (book .entry)) (length (now (out .entry)))) ⌝ }
+    ensures lent { λ r. ⌜ now (out .exit) ≡ left (asks (activity ∷ []) (date ∷ [])) (indicesRows activity date) (now (book .entry)) (now (out .entry)) ⌝ }
+{
+    let answer = engine::indices(book, activity, date, out);
+    give(answer, at)
+}
+
+// The project's forecast and indices.
+#[no_mangle]
+pub extern "C" fn surukeva_project_indices(
+    book: &[u8],
+    date: u64,
+    out: &mut [u64],
+    at: &mut u64,
+) -> u64
+    ensures { λ r. ⌜ r ≡ replyNumber (reply (asks [] (date ∷ [])) (projectIndicesRows date) (now (book .entry)) (length (now (out .entry)))) ⌝ }
+    ensures place { λ r. ⌜ now (at .exit) ≡ replyPlace (reply (asks [] (date ∷ [])) (projectIndicesRows date) (now (book .entry)) (length (now (out .entry)))) ⌝ }
+    ensures lent { λ r. ⌜ now (out .exit) ≡ left (asks [] (date ∷ [])) (projectIndicesRows date) (now (book .entry)) (now (out .entry)) ⌝ }
+{
+    let answer = engine::project_indices(book, date, out);
+    give(answer, at)
+}
+
+// The financial periods.
+#[no_mangle]
+pub extern "C" fn surukeva_period_points(book: &[u8], out: &mut [u64], at: &mut u64) -> u64
+    ensures { λ r. ⌜ r ≡ replyNumber (reply (asks [] []) periodPointsRows (now (book .entry)) (length (now (out .entry)))) ⌝ }
+    ensures place { λ r. ⌜ now (at .exit) ≡ replyPlace (reply (asks [] []) periodPointsRows (now (book .entry)) (length (now (out .entry)))) ⌝ }
+    ensures lent { λ r. ⌜ now (out .exit) ≡ left (asks [] []) periodPointsRows (now (book .entry)) (now (out .entry)) ⌝ }
+{
+    let answer = engine::period_points(book, out);
+    give(answer, at)
+}
+
+// Each activity's variances from the baseline.
+#[no_mangle]
+pub extern "C" fn surukeva_variances(book: &[u8], out: &mut [u64], at: &mut u64) -> u64
+    ensures { λ r. ⌜ r ≡ replyNumber (reply (asks [] []) variancesRows (now (book .entry)) (length (now (out .entry)))) ⌝ }
+    ensures place { λ r. ⌜ now (at .exit) ≡ replyPlace (reply (asks [] []) variancesRows (now (book .entry)) (length (now (out .entry)))) ⌝ }
+    ensures lent { λ r. ⌜ now (out .exit) ≡ left (asks [] []) variancesRows (now (book .entry)) (now (out .entry)) ⌝ }
+{
+    let answer = engine::variances(book, out);
+    give(answer, at)
+}
+
+// The lines of the budget.
+#[no_mangle]
+pub extern "C" fn surukeva_budget(book: &[u8], out: &mut [u64], at: &mut u64) -> u64
+    ensures { λ r. ⌜ r ≡ replyNumber (reply (asks [] []) budgetRows (now (book .entry)) (length (now (out .entry)))) ⌝ }
+    ensures place { λ r. ⌜ now (at .exit) ≡ replyPlace (reply (asks [] []) budgetRows (now (book .entry)) (length (now (out .entry)))) ⌝ }
+    ensures lent { λ r. ⌜ now (out .exit) ≡ left (asks [] []) budgetRows (now (book .entry)) (now (out .entry)) ⌝ }
+{
+    let answer = engine::budget(book, out);
+    give(answer, at)
+}
+
+// The funding.
+#[no_mangle]
+pub extern "C" fn surukeva_funding(book: &[u8], out: &mut [u64], at: &mut u64) -> u64
+    ensures { λ r. ⌜ r ≡ replyNumber (reply (asks [] []) fundingRows (now (book .entry)) (length (now (out .entry)))) ⌝ }
+    ensures place { λ r. ⌜ now (at .exit) ≡ replyPlace (reply (asks [] []) fundingRows (now (book .entry)) (length (now (out .entry)))) ⌝ }
+    ensures lent { λ r. ⌜ now (out .exit) ≡ left (asks [] []) fundingRows (now (book .entry)) (now (out .entry)) ⌝ }
+{
+    let answer = engine::funding(book, out);
     give(answer, at)
 }

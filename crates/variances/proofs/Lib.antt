@@ -1,5 +1,4 @@
 pub mod Lasting
 pub mod Counting
 pub mod Reaching
-pub mod Rolled
 pub mod Made

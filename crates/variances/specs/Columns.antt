@@ -19,7 +19,7 @@ use Rattle.calendar.specs.Tables.{entry}
 use Rattle.tree.specs.Figures.{figureOf}
 use Rattle.activities.specs.declared.Stretch.{Stretch}
 use Rattle.earned.specs.Listed.{byLine}
-use Rattle.planned.specs.Columns.{isOpen, Replaced, All}
+use Rattle.planned.specs.Columns.{Named, isOpen, Replaced, All}
 
 -- ---- the last line of each activity
 
@@ -87,6 +87,23 @@ pub record Dates (r : Stretch) (n : ℕ) (starts finishes begins ends : List ℕ
   pub paired : Paired n starts finishes begins ends
   pub start : Within r starts begins
   pub finish : Within r finishes ends
+
+-- and with them each activity's calendar, one of so many; the columns of the figures have an entry for each activity too
+pub record UnderCalendars (r : Stretch) (count : ℕ) (starts finishes begins ends calendars : List ℕ) (start finish : List ℤ) : Type 0 where
+  pub dates : Dates r (length calendars) starts finishes begins ends
+  pub named : Named count calendars
+  pub startLong : length start ≡ length calendars
+  pub finishLong : length finish ≡ length calendars
+
+-- columns to fill, of n entries; those of the figures are of zeros
+pub record Unfilled (n : ℕ) (begins ends calendars : List ℕ) (start finish : List ℤ) : Type 0 where
+  pub beginsLong : length begins ≡ n
+  pub endsLong : length ends ≡ n
+  pub calendarsLong : length calendars ≡ n
+  pub startLong : length start ≡ n
+  pub finishLong : length finish ≡ n
+  pub startBlank : Nothing start
+  pub finishBlank : Nothing finish
 
 -- tables of days and of counts have room for a stretch
 pub record Room (r : Stretch) (days counts : ℕ) : Type 0 where

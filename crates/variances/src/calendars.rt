@@ -11,8 +11,8 @@ ghost use lib.ListN.{length};
 ghost use Rattle.format.specs.InRange.{Every, CalendarInRange};
 ghost use Rattle.format.specs.Format as layout;
 ghost use Rattle.book.specs.Sections.{alikeIn, calendarOf};
-ghost use Rattle.planned.specs.Columns.{Named, isUnder, Replaced, All};
-ghost use Rattle.variances.specs.Columns.{Dates, Room, betweenAt, AllBetween};
+ghost use Rattle.planned.specs.Columns.{isUnder, Replaced, All};
+ghost use Rattle.variances.specs.Columns.{Dates, UnderCalendars, Room, betweenAt, AllBetween};
 
 // Of the activities of one calendar; where none with a line has it, its working dates are not counted.
 fn vary_calendar(
@@ -60,9 +60,7 @@ pub fn vary_calendars(
     finish: &mut [i64],
 )
     requires { ⌜ Every CalendarInRange (alikeIn layout.calendar (now book) list) ⌝ }
-    requires { ⌜ Named (list .count) (now calendars) ⌝ }
-    requires { ⌜ Dates reach (length (now calendars)) (now starts) (now finishes) (now begins) (now ends) ⌝ }
-    requires { ⌜ (length (now start) ≡ length (now calendars)) × (length (now finish) ≡ length (now calendars)) ⌝ }
+    requires { ⌜ UnderCalendars reach (list .count) (now starts) (now finishes) (now begins) (now ends) (now calendars) (now start) (now finish) ⌝ }
     requires { ⌜ Room reach (length (now days)) (length (now counts)) ⌝ }
     ensures begin { λ r. ⌜ AllBetween (alikeIn layout.calendar (now (book .entry)) list) (now (starts .entry)) (now (begins .entry)) (now (calendars .entry)) (now (start .entry)) (now (start .exit)) ⌝ }
     ensures end { λ r. ⌜ AllBetween (alikeIn layout.calendar (now (book .entry)) list) (now (finishes .entry)) (now (ends .entry)) (now (calendars .entry)) (now (finish .entry)) (now (finish .exit)) ⌝ }

@@ -22,7 +22,7 @@ ghost use Rattle.model.specs.Lists.{span};
 ghost use Rattle.rows.specs.Rows.{placed};
 ghost use Rattle.earned.specs.Listed.{startOf, finishOf};
 ghost use Rattle.planned.specs.Columns.{Named};
-ghost use Rattle.variances.specs.Columns.{lastly, Nothing, DatesInRange, Dates, Paired, AllBetween, columnOf};
+ghost use Rattle.variances.specs.Columns.{lastly, DatesInRange, Paired, UnderCalendars, Unfilled, AllBetween, columnOf};
 
 // Over a stretch of at most 1,024 dates.
 fn vary_short(
@@ -38,9 +38,7 @@ fn vary_short(
     finish: &mut [i64],
 )
     requires { ⌜ Every CalendarInRange (alikeIn layout.calendar (now book) list) ⌝ }
-    requires { ⌜ Named (list .count) (now calendars) ⌝ }
-    requires { ⌜ Dates reach (length (now calendars)) (now starts) (now finishes) (now begins) (now ends) ⌝ }
-    requires { ⌜ (length (now start) ≡ length (now calendars)) × (length (now finish) ≡ length (now calendars)) ⌝ }
+    requires { ⌜ UnderCalendars reach (list .count) (now starts) (now finishes) (now begins) (now ends) (now calendars) (now start) (now finish) ⌝ }
     requires { ⌜ reach .to + 1 - reach .from ≤ 1024 ⌝ }
     ensures begin { λ r. ⌜ AllBetween (alikeIn layout.calendar (now (book .entry)) list) (now (starts .entry)) (now (begins .entry)) (now (calendars .entry)) (now (start .entry)) (now (start .exit)) ⌝ }
     ensures end { λ r. ⌜ AllBetween (alikeIn layout.calendar (now (book .entry)) list) (now (finishes .entry)) (now (ends .entry)) (now (calendars .entry)) (now (finish .entry)) (now (finish .exit)) ⌝ }
@@ -77,9 +75,7 @@ fn vary_long(
     finish: &mut [i64],
 )
     requires { ⌜ Every CalendarInRange (alikeIn layout.calendar (now book) list) ⌝ }
-    requires { ⌜ Named (list .count) (now calendars) ⌝ }
-    requires { ⌜ Dates reach (length (now calendars)) (now starts) (now finishes) (now begins) (now ends) ⌝ }
-    requires { ⌜ (length (now start) ≡ length (now calendars)) × (length (now finish) ≡ length (now calendars)) ⌝ }
+    requires { ⌜ UnderCalendars reach (list .count) (now starts) (now finishes) (now begins) (now ends) (now calendars) (now start) (now finish) ⌝ }
     ensures begin { λ r. ⌜ AllBetween (alikeIn layout.calendar (now (book .entry)) list) (now (starts .entry)) (now (begins .entry)) (now (calendars .entry)) (now (start .entry)) (now (start .exit)) ⌝ }
     ensures end { λ r. ⌜ AllBetween (alikeIn layout.calendar (now (book .entry)) list) (now (finishes .entry)) (now (ends .entry)) (now (calendars .entry)) (now (finish .entry)) (now (finish .exit)) ⌝ }
 {
@@ -101,7 +97,55 @@ fn vary_long(
     );
 }
 
-// With the smaller tables where they do; without a line there is nothing to count.
+// Over a stretch with a date or more, with the smaller tables where they do.
+fn vary_stretch(
+    book: &[u8],
+    list: Section,
+    reach: Stretch,
+    starts: &[u64],
+    finishes: &[u64],
+    begins: &[u64],
+    ends: &[u64],
+    calendars: &[u64],
+    start: &mut [i64],
+    finish: &mut [i64],
+)
+    requires { ⌜ Every CalendarInRange (alikeIn layout.calendar (now book) list) ⌝ }
+    requires { ⌜ UnderCalendars reach (list .count) (now starts) (now finishes) (now begins) (now ends) (now calendars) (now start) (now finish) ⌝ }
+    requires { ⌜ reach .from ≤ reach .to ⌝ }
+    ensures begin { λ r. ⌜ AllBetween (alikeIn layout.calendar (now (book .entry)) list) (now (starts .entry)) (now (begins .entry)) (now (calendars .entry)) (now (start .entry)) (now (start .exit)) ⌝ }
+    ensures end { λ r. ⌜ AllBetween (alikeIn layout.calendar (now (book .entry)) list) (now (finishes .entry)) (now (ends .entry)) (now (calendars .entry)) (now (finish .entry)) (now (finish .exit)) ⌝ }
+{
+    if reach.to - reach.from < 1024 {
+        vary_short(
+            book,
+            list,
+            reach,
+            starts,
+            finishes,
+            begins,
+            ends,
+            calendars,
+            start,
+            finish,
+        );
+        return;
+    }
+    vary_long(
+        book,
+        list,
+        reach,
+        starts,
+        finishes,
+        begins,
+        ends,
+        calendars,
+        start,
+        finish,
+    );
+}
+
+// Over the stretch of all dates of lines; without a line there is nothing to count.
 fn vary_dates(
     book: &[u8],
     list: Section,
@@ -130,22 +174,7 @@ fn vary_dates(
     if all.to < all.from {
         return;
     }
-    if all.to - all.from < 1024 {
-        vary_short(
-            book,
-            list,
-            all,
-            starts,
-            finishes,
-            begins,
-            ends,
-            calendars,
-            start,
-            finish,
-        );
-        return;
-    }
-    vary_long(
+    vary_stretch(
         book,
         list,
         all,
@@ -176,9 +205,7 @@ fn fill_dates(
     requires { ⌜ IsPlanOf (now book) date plan ⌝ }
     requires { ⌜ now starts ≡ map (lastly startOf 0 (content (now book))) (span 0 (plan .activities .count)) ⌝ }
     requires { ⌜ now finishes ≡ map (lastly finishOf 0 (content (now book))) (span 0 (plan .activities .count)) ⌝ }
-    requires { ⌜ (length (now begins) ≡ plan .activities .count) × (length (now ends) ≡ plan .activities .count) × (length (now calendars) ≡ plan .activities .count) ⌝ }
-    requires { ⌜ (length (now start) ≡ plan .activities .count) × (length (now finish) ≡ plan .activities .count) ⌝ }
-    requires { ⌜ Nothing (now start) × Nothing (now finish) ⌝ }
+    requires { ⌜ Unfilled (plan .activities .count) (now begins) (now ends) (now calendars) (now start) (now finish) ⌝ }
     requires { ⌜ length (now out) ≡ plan .activities .count * 5 ⌝ }
     ensures { λ r. ⌜ now (out .exit) ≡ placed 5 2 (columnOf (λ v. v .finish) (content (now (book .entry)))) (placed 5 1 (columnOf (λ v. v .start) (content (now (book .entry)))) (now (out .entry))) ⌝ }
 {

@@ -91,20 +91,18 @@ put-lines-requires c κs =
     let parents = c .before .before .before .before .before .before .before .before .before .before .before .before .before .before .before .before .before .before .before .before .before .before .before .before .before .before .before .parents .given ∙ s .pre .1 .1 .0 .0 in
     let pre = s .pre .1 .1 .1 .1 .1 in (
       (
+        record {
+          originalLong = ap length (own .ensures .0) ∙ owner-length _;
+          currentLong = ap length (own .ensures .1 .1 .0) ∙ owner-length _;
+          proposedLong = ap length (own .ensures .1 .1 .1 .0) ∙ owner-length _;
+          distributedLong = ap length (own .ensures .1 .1 .1 .1 .0) ∙ owner-length _;
+          plannedLong = ap length (own .ensures .1 .0) ∙ owner-length _;
+        },
         omega (arith, parents, activities-most (s .pre .0), c .before .before .before .before .before .before .before .before .before .before .marks .given, ap length (pre .0 .1), length-replicate {A = ℕ} 501 0),
         omega (arith, parents, activities-most (s .pre .0)),
         c .before .before .before .before .before .before .before .before .before .before .before .before .before .before .before .before .before .before .before .before .before .before .before .before .before .scheduled .given ∙ s .pre .1 .1 .0 .1 ∙ sym parents,
       ),
-      (
-        (
-          ap length (own .ensures .0) ∙ owner-length _,
-          ap length (own .ensures .1 .1 .0) ∙ owner-length _,
-          ap length (own .ensures .1 .1 .1 .0) ∙ owner-length _,
-          ap length (own .ensures .1 .1 .1 .1 .0) ∙ owner-length _,
-          ap length (own .ensures .1 .0) ∙ owner-length _,
-        ),
-        pre .1 ∙ ap (λ (ls : List BudgetLine). length ls * 10) (sym (same-lines c)),
-      ),
+      pre .1 ∙ ap (λ (ls : List BudgetLine). length ls * 10) (sym (same-lines c)),
     )
 
 same-length : tie.Need-same-length

@@ -1,8 +1,6 @@
 -- `earned_value` meets its contract: a refused book, or what is answered to an opened one.
 use borrow.Author.Needs.{needs}
-use mathlib.Core.List.{[], _∷_}
-use Rattle.engine.specs.Rows.{earnedValueRows}
-use Rattle.engine.proofs.Replies.{opened-is, book-refused, book-accepted}
+use Rattle.answers.proofs.Replies.{opened-is, book-refused, book-accepted}
 use Rattle.engine.proofs.earned_value.Statement.{statement}
 use Rattle.engine.proofs.earned_value.Tie as tie
 
@@ -23,13 +21,11 @@ same-length c = search needs
 
 returns : tie.Need-returns
 returns c =
-    let s = c .before .before .before .before .before .before .before .before .before .before in
-    book-accepted (s .args .at ∷ []) (earnedValueRows (s .args .at)) (s .args .book .now) (s .args .out .now) (opened-is (c .before .before .before .before .before .before .before .«open» .ensures) (c .before .before .before .before .before .opening .given .1)) (c .before .before .earned-value-of .ensures)
+    let opening = c .before .before .before .before .before in
+    book-accepted _ _ _ _ (opened-is (opening .before .before .«open» .ensures) (opening .opening .given .1)) (c .before .before .earned-value-of .ensures)
 
 returns-2 : tie.Need-returns-2
-returns-2 c =
-    let s = c .before .before .before .before .before .before in
-    book-refused (s .args .at ∷ []) (earnedValueRows (s .args .at)) (s .args .book .now) (s .args .out .now) (c .before .before .before .«open» .ensures) (c .before .opening2 .given .1)
+returns-2 c = book-refused _ _ _ _ (c .before .before .before .«open» .ensures) (c .before .opening2 .given .1)
 
 pub earned-value-spec : {M : Type 1} → statement M
 earned-value-spec =

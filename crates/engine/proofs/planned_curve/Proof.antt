@@ -1,8 +1,6 @@
 -- `planned_curve` meets its contract: a refused book, or what is answered to an opened one.
 use borrow.Author.Needs.{needs}
-use mathlib.Core.List.{[], _∷_}
-use Rattle.engine.specs.Rows.{plannedCurveRows}
-use Rattle.engine.proofs.Replies.{opened-is, book-refused, book-accepted}
+use Rattle.answers.proofs.Replies.{opened-is, book-refused, book-accepted}
 use Rattle.engine.proofs.planned_curve.Statement.{statement}
 use Rattle.engine.proofs.planned_curve.Tie as tie
 
@@ -13,9 +11,7 @@ enum-known-opening : tie.Need-enum-known-opening
 enum-known-opening c = search needs
 
 planned-curve-of-requires : tie.Need-planned-curve-of-requires
-planned-curve-of-requires c κs =
-    let opened = opened-is (c .before .before .before .before .before .before .«open» .ensures) (c .before .before .before .before .opening .given .1) in
-    (opened .plan, opened .baseline)
+planned-curve-of-requires c κs = opened-is (c .before .before .before .before .«open» .ensures) (c .before .before .opening .given .1)
 
 enum-known-opening-2 : tie.Need-enum-known-opening-2
 enum-known-opening-2 c = search needs
@@ -25,13 +21,11 @@ same-length c = search needs
 
 returns : tie.Need-returns
 returns c =
-    let s = c .before .before .before .before .before .before .before .before .before .before .before .before in
-    book-accepted (s .args .from ∷ s .args .to ∷ []) (plannedCurveRows (s .args .from) (s .args .to)) (s .args .book .now) (s .args .out .now) (opened-is (c .before .before .before .before .before .before .before .before .before .«open» .ensures) (c .before .before .before .before .before .before .before .opening .given .1)) (c .before .before .planned-curve-of .ensures)
+    let opening = c .before .before .before .before .before in
+    book-accepted _ _ _ _ (opened-is (opening .before .before .«open» .ensures) (opening .opening .given .1)) (c .before .before .planned-curve-of .ensures)
 
 returns-2 : tie.Need-returns-2
-returns-2 c =
-    let s = c .before .before .before .before .before .before in
-    book-refused (s .args .from ∷ s .args .to ∷ []) (plannedCurveRows (s .args .from) (s .args .to)) (s .args .book .now) (s .args .out .now) (c .before .before .before .«open» .ensures) (c .before .opening2 .given .1)
+returns-2 c = book-refused _ _ _ _ (c .before .before .before .«open» .ensures) (c .before .opening2 .given .1)
 
 pub planned-curve-spec : {M : Type 1} → statement M
 planned-curve-spec =

@@ -2,13 +2,13 @@
 use mathlib.Core.Path.{_≡_, ap, ap₂, _∙_}
 use mathlib.Core.List.{List}
 use native.Mathlib.Omega.{arith}
-use lib.ListN.{length}
 use Rattle.format.specs.Verdict.{content}
 use Rattle.model.specs.declared.Way.the-variants.{Planned}
 use Rattle.model.specs.Amounts.{Dated, pointsBetween}
 use Rattle.model.specs.Costs.{budgetByDay, spendingBetween}
 use Rattle.activities.proofs.Plans.{plan-spans}
-use Rattle.spending.specs.Rows.{pointRows, written, grained}
+use Rattle.spending.specs.Rows.{pointRows, grained}
+use Rattle.spending.proofs.Writing.{writes-same}
 use Rattle.spending.proofs.Spanning.{spans-long, budget-within}
 use Rattle.spending.proofs.Pointing.{points-narrow}
 use Rattle.spending.proofs.rows_of.Statement.{statement}
@@ -44,10 +44,7 @@ same-length c = c .before .before .rows-between .kept .1 .1 .1 .1 .1 .1 .1 .1 .0
 returns : tie.Need-returns
 returns c =
     let s = c .before .before .before .before .before .before .before .before .before .before .before in
-    let is = points (c .before .before .before .before) in (
-      c .before .before .rows-between .ensures .0 ∙ ap (λ (l : List Dated). length (pointRows (grained (s .args .grain) l))) is,
-      c .before .before .rows-between .ensures .1 ∙ ap (λ (l : List Dated). written (pointRows (grained (s .args .grain) l)) (s .args .out .now)) is,
-    )
+    writes-same (s .args .out .now) (ap (λ (l : List Dated). pointRows (grained (s .args .grain) l)) (points (c .before .before .before .before))) (c .before .before .rows-between .ensures)
 
 pub rows-of-spec : {M : Type 1} → statement M
 rows-of-spec = tie.close (tie.spec stretch-requires (λ c κs. tt) (λ c κs. tt) rows-between-requires same-length returns)

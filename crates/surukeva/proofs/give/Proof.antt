@@ -1,7 +1,7 @@
 -- `give` meets its contract: the number and the place of the answer.
 use borrow.Author.Needs.{needs}
 use mathlib.Core.Path.{refl}
-use Rattle.engine.specs.Calls.{replyNumber, replyPlace}
+use Rattle.answers.specs.Calls.{replyNumber, replyPlace}
 use Rattle.surukeva.proofs.give.Statement.{statement}
 use Rattle.surukeva.proofs.give.Tie as tie
 

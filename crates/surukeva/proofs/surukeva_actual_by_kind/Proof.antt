@@ -1,28 +1,23 @@
 -- `surukeva_actual_by_kind` meets its contract: the call's answer, given in C's way.
 use borrow.Author.Needs.{needs}
 use mathlib.Core.Path.{ap, _∙_}
-use Rattle.engine.specs.Calls.{replyNumber, replyPlace}
+use Rattle.answers.specs.Calls.{replyNumber, replyPlace}
 use Rattle.surukeva.proofs.surukeva_actual_by_kind.Statement.{statement}
 use Rattle.surukeva.proofs.surukeva_actual_by_kind.Tie as tie
 
--- src/lib.rt:74:9
 actual-by-kind-requires : tie.Need-actual-by-kind-requires
 actual-by-kind-requires c κs = search needs
 
--- src/lib.rt:75:5
 give-requires : tie.Need-give-requires
 give-requires c κs = search needs
 
--- src/lib.rt:68:1
 same-length : tie.Need-same-length
 same-length c = search needs
 
--- src/lib.rt:68:1
 returns : tie.Need-returns
 returns c =
     let made = c .before .before .before .before .actual-by-kind .ensures in
     (c .give .ensures .0 ∙ ap replyNumber (made .0), (c .give .ensures .1 ∙ ap replyPlace (made .0), made .1))
 
 pub surukeva-actual-by-kind-spec : {M : Type 1} → statement M
-surukeva-actual-by-kind-spec =
-    tie.close (tie.spec actual-by-kind-requires give-requires same-length returns)
+surukeva-actual-by-kind-spec = tie.close (tie.spec actual-by-kind-requires give-requires same-length returns)

@@ -1,23 +1,19 @@
 -- `surukeva_costs` meets its contract: the call's answer, given in C's way.
 use borrow.Author.Needs.{needs}
 use mathlib.Core.Path.{ap, _∙_}
-use Rattle.engine.specs.Calls.{replyNumber, replyPlace}
+use Rattle.answers.specs.Calls.{replyNumber, replyPlace}
 use Rattle.surukeva.proofs.surukeva_costs.Statement.{statement}
 use Rattle.surukeva.proofs.surukeva_costs.Tie as tie
 
--- src/lib.rt:52:9
 costs-requires : tie.Need-costs-requires
 costs-requires c κs = search needs
 
--- src/lib.rt:53:5
 give-requires : tie.Need-give-requires
 give-requires c κs = search needs
 
--- src/lib.rt:46:1
 same-length : tie.Need-same-length
 same-length c = search needs
 
--- src/lib.rt:46:1
 returns : tie.Need-returns
 returns c =
     let made = c .before .before .before .before .costs .ensures in

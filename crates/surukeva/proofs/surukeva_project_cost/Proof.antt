@@ -1,28 +1,23 @@
 -- `surukeva_project_cost` meets its contract: the call's answer, given in C's way.
 use borrow.Author.Needs.{needs}
 use mathlib.Core.Path.{ap, _∙_}
-use Rattle.engine.specs.Calls.{replyNumber, replyPlace}
+use Rattle.answers.specs.Calls.{replyNumber, replyPlace}
 use Rattle.surukeva.proofs.surukeva_project_cost.Statement.{statement}
 use Rattle.surukeva.proofs.surukeva_project_cost.Tie as tie
 
--- src/lib.rt:63:9
 project-cost-requires : tie.Need-project-cost-requires
 project-cost-requires c κs = search needs
 
--- src/lib.rt:64:5
 give-requires : tie.Need-give-requires
 give-requires c κs = search needs
 
--- src/lib.rt:57:1
 same-length : tie.Need-same-length
 same-length c = search needs
 
--- src/lib.rt:57:1
 returns : tie.Need-returns
 returns c =
     let made = c .before .before .before .before .project-cost .ensures in
     (c .give .ensures .0 ∙ ap replyNumber (made .0), (c .give .ensures .1 ∙ ap replyPlace (made .0), made .1))
 
 pub surukeva-project-cost-spec : {M : Type 1} → statement M
-surukeva-project-cost-spec =
-    tie.close (tie.spec project-cost-requires give-requires same-length returns)
+surukeva-project-cost-spec = tie.close (tie.spec project-cost-requires give-requires same-length returns)

@@ -23,31 +23,31 @@ mul-t10 : tie.Need-mul-t10
 mul-t10 c = omega (arith, at-mark c)
 
 shared-slice-copy-out-t12 : tie.Need-shared-slice-copy-out-t12
-shared-slice-copy-out-t12 c = omega (arith, at-mark (c), c .before .pre .0)
+shared-slice-copy-out-t12 c = omega (arith, at-mark (c), c .before .pre .originalLong)
 
 mul-t13 : tie.Need-mul-t13
 mul-t13 c = omega (arith, at-mark (c .before))
 
 shared-slice-copy-out-t15 : tie.Need-shared-slice-copy-out-t15
-shared-slice-copy-out-t15 c = omega (arith, at-mark (c .before), c .before .before .pre .1)
+shared-slice-copy-out-t15 c = omega (arith, at-mark (c .before), c .before .before .pre .currentLong)
 
 mul-t16 : tie.Need-mul-t16
 mul-t16 c = omega (arith, at-mark (c .before .before))
 
 shared-slice-copy-out-t18 : tie.Need-shared-slice-copy-out-t18
-shared-slice-copy-out-t18 c = omega (arith, at-mark (c .before .before), c .before .before .before .pre .2)
+shared-slice-copy-out-t18 c = omega (arith, at-mark (c .before .before), c .before .before .before .pre .proposedLong)
 
 mul-t19 : tie.Need-mul-t19
 mul-t19 c = omega (arith, at-mark (c .before .before .before))
 
 shared-slice-copy-out-t21 : tie.Need-shared-slice-copy-out-t21
-shared-slice-copy-out-t21 c = omega (arith, at-mark (c .before .before .before), c .before .before .before .before .pre .3)
+shared-slice-copy-out-t21 c = omega (arith, at-mark (c .before .before .before), c .before .before .before .before .pre .distributedLong)
 
 mul-t22 : tie.Need-mul-t22
 mul-t22 c = omega (arith, at-mark (c .before .before .before .before))
 
 shared-slice-copy-out-t24 : tie.Need-shared-slice-copy-out-t24
-shared-slice-copy-out-t24 c = omega (arith, at-mark (c .before .before .before .before), c .before .before .before .before .before .pre .4)
+shared-slice-copy-out-t24 c = omega (arith, at-mark (c .before .before .before .before), c .before .before .before .before .before .pre .plannedLong)
 
 returns : tie.Need-returns
 unfolding lineOf lineIn

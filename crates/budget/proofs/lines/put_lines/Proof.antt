@@ -38,7 +38,7 @@ put-project-requires : tie.Need-put-project-requires Inv-loop μ-loop
 unfolding linesIn
 put-project-requires c κs =
     let s = c .before .before .before .before in
-    (s .pre .1 .0, omega (arith, s .pre .1 .1))
+    (s .pre .0 .0, omega (arith, s .pre .1))
 
 loop-holds : tie.Need-loop-holds Inv-loop μ-loop
 unfolding linesIn
@@ -46,7 +46,7 @@ loop-holds c =
     let s = c .before .before .before .before .before .before .before in (
       refl,
       writing-none (rows (s .args .original .now) (s .args .current .now) (s .args .proposed .now) (s .args .distributed .now) (s .args .planned .now) (s .args .parents .now) (s .args .scheduled .now)) (isMarked (s .args .marks .now)) (length (s .args .parents .now)) 10 _
-          (c .before .out .given ∙ s .pre .1 .1 ∙ omega (arith, length-map (markedOf (s .args .marks .now) (length (s .args .parents .now))) (activityLine (s .args .original .now) (s .args .current .now) (s .args .proposed .now) (s .args .distributed .now) (s .args .planned .now) (s .args .parents .now) (s .args .scheduled .now)))),
+          (c .before .out .given ∙ s .pre .1 ∙ omega (arith, length-map (markedOf (s .args .marks .now) (length (s .args .parents .now))) (activityLine (s .args .original .now) (s .args .current .now) (s .args .proposed .now) (s .args .distributed .now) (s .args .planned .now) (s .args .parents .now) (s .args .scheduled .now)))),
     )
 
 -- there are no more rows than owners
@@ -57,7 +57,7 @@ bound c =
     let marks = s .args .marks .now in
     let n = length (s .args .parents .now) in
     let line = activityLine (s .args .original .now) (s .args .current .now) (s .args .proposed .now) (s .args .distributed .now) (s .args .planned .now) (s .args .parents .now) (s .args .scheduled .now) in
-    omega (arith, c .before .loop .inv .0, c .before .before .before .out .given, s .pre .1 .1, s .pre .0 .1, marked-most marks n, length-map (markedOf marks n) line)
+    omega (arith, c .before .loop .inv .0, c .before .before .before .out .given, s .pre .1, s .pre .0 .2, marked-most marks n, length-map (markedOf marks n) line)
 
 mul-if1 : tie.Need-mul-if1 Inv-loop μ-loop
 mul-if1 c = search needs
@@ -71,8 +71,8 @@ put-activity-requires c κs =
     let s = c .before .before .before .before .before .before .before .before .before .before .before .before in
     let more = c .before .before .before .loop-test .taken in
     let room = writing-room (l .inv .1) more (ap not (ne-eqb _ _ (c .before .if1 .taken))) in (
-      (more, s .pre .0 .1, s .pre .0 .2),
-      (s .pre .1 .0, (room, omega (arith, room, bound (c .before .before .before)))),
+      (more, s .pre .0 .2, s .pre .0 .3),
+      (s .pre .0 .0, (room, omega (arith, room, bound (c .before .before .before)))),
     )
 
 add-at : tie.Need-add-at Inv-loop μ-loop
@@ -102,14 +102,14 @@ same-length : tie.Need-same-length Inv-loop μ-loop
 same-length c = c .before .loop .inv .0 ∙ c .before .before .before .out .given
 
 returns : tie.Need-returns Inv-loop μ-loop
-unfolding linesIn numbers flatMap budgetRow
+unfolding linesIn numbers flatMap
 returns c =
     let s = c .before .before .before .before .before .before .before .before .before in
     let marked = markedOf (s .args .marks .now) (length (s .args .parents .now)) in
     let line = activityLine (s .args .original .now) (s .args .current .now) (s .args .proposed .now) (s .args .distributed .now) (s .args .planned .now) (s .args .parents .now) (s .args .scheduled .now) in
     let first = budgetRow (lineIn (s .args .original .now) (s .args .current .now) (s .args .proposed .now) (s .args .distributed .now) (s .args .planned .now) none 0 (s .args .whole)) in
     writing-end (c .before .loop .inv .1) (c .loop-test .left)
-    ∙ behind-first (λ (i : ℕ). budgetRow (line i)) (λ i. row-long (line i)) first (s .args .out .now) _ marked refl (s .pre .1 .1 ∙ omega (arith, length-map marked line)) (c .before .before .before .before .put-project .ensures ∙ ap (λ (z : ℤ). sets (s .args .out .now) 0 (budgetRow (lineIn (s .args .original .now) (s .args .current .now) (s .args .proposed .now) (s .args .distributed .now) (s .args .planned .now) none 0 z))) (toZ-ofZ (s .fits .whole)))
+    ∙ behind-first (λ (i : ℕ). budgetRow (line i)) (λ i. row-long (line i)) first (s .args .out .now) _ marked (row-long _) (s .pre .1 ∙ omega (arith, length-map marked line)) (c .before .before .before .before .put-project .ensures ∙ ap (λ (z : ℤ). sets (s .args .out .now) 0 (budgetRow (lineIn (s .args .original .now) (s .args .current .now) (s .args .proposed .now) (s .args .distributed .now) (s .args .planned .now) none 0 z))) (toZ-ofZ (s .fits .whole)))
     ∙ ap (λ (rows : List (List ℕ)). first ++ numbers rows) (sym (map-map budgetRow line marked))
 
 pub put-lines-spec : {M : Type 1} → statement M

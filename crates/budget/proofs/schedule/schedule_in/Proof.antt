@@ -1,12 +1,14 @@
 -- `schedule_in` meets its contract: the planned costs, rolled up, and of the leaves added up.
 use native.Mathlib.Omega.{arith}
-use mathlib.Core.Path.{ap, _∙_}
+use mathlib.Core.Path.{refl, ap, _∙_}
 use mir.Syntax.{w64}
 use Rattle.integer.specs.Linear.{back}
 use Rattle.format.specs.Verdict.{content}
 use Rattle.book.proofs.Plan.{activities-most}
+use Rattle.model.specs.Costs.{ownCost}
+use Rattle.model.proofs.Costs.{figures}
 use Rattle.tree.specs.Figures.{rolledUp, unmarkedSum}
-use Rattle.budget.proofs.Costed.{scheduled-rolled, scheduled-whole}
+use Rattle.rows.proofs.Rolled.{rolled-costs, leaf-costs}
 use borrow.Author.Needs.{needs}
 use Rattle.budget.proofs.schedule.schedule_in.Statement.{statement}
 use Rattle.budget.proofs.schedule.schedule_in.Tie as tie
@@ -35,12 +37,13 @@ same-length-4 : tie.Need-same-length-4
 same-length-4 c = search needs
 
 returns : tie.Need-returns
+unfolding ownCost
 returns c =
     let s = c .before .before .before .before .before .before .before .before .before .before .before .before .before .before .before .before in
     let book = content (s .args .book .now) in
     let own = c .before .before .before .before .before .before .before .before .before .cost-columns .ensures .0 in (
-      c .before .before .before .roll-up .ensures ∙ ap (rolledUp (s .args .parents .now)) own ∙ scheduled-rolled book (s .args .parents .now) (s .pre .1 .0 .0),
-      back w64 (c .leaf-sum .result) (c .leaf-sum .ok) ∙ c .leaf-sum .ensures ∙ ap (unmarkedSum (s .args .marks .now)) own ∙ scheduled-whole book (s .args .marks .now) (s .pre .1 .1 .0 .0),
+      c .before .before .before .roll-up .ensures ∙ ap (rolledUp (s .args .parents .now)) own ∙ rolled-costs (λ k. k .budget) (figures .0) book (s .args .parents .now) (s .pre .1 .0 .0),
+      back w64 (c .leaf-sum .result) (c .leaf-sum .ok) ∙ c .leaf-sum .ensures ∙ ap (unmarkedSum (s .args .marks .now)) own ∙ leaf-costs (λ k. k .budget) (figures .0) book (s .args .marks .now) (s .pre .1 .1 .0 .0) refl,
     )
 
 pub schedule-in-spec : {M : Type 1} → statement M

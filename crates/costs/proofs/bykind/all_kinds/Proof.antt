@@ -21,19 +21,13 @@ actual-expenses-requires c κs =
     let p = s .pre .0 in
     ((plan-expenses p, sym (activities-count p)), (c .before .before .before .before .before .before .before .before .before .before .before .before .before .before .before .before .charge-columns .ensures .1 .0, (c .before .before .before .before .before .before .before .before .first .given ∙ s .pre .1 .1 .0 .firstLong, s .pre .1 .1 .1 .rest .oneLong)))
 
-actual-units-requires : tie.Need-actual-units-requires
-actual-units-requires c κs =
-    let s = c .before .before .before .before .before .before .before .before .before .before .before .before .before .before .before .before .before .before .before .before .before .before .before .before .before .before .before .before .before .before .before .before .before .before .before .before .before .before .before .before .before in
+both-units-requires : tie.Need-both-units-requires
+both-units-requires c κs =
+    let s = c .before .before .before .before .before .before .before .before .before .before .before .before .before .before .before .before .before .before .before .before .before .before .before .before .before .before .before .before .before .before .before .before .before .before .before .before .before .before .before .before .before .before in
     let p = s .pre .0 in
-    let long = s .pre .1 .1 .1 .rest .twoLong in
-    (c .before .before .before .before .before .before .before .before .before .before .before .before .before .before .before .before .before .before .before .before .before .before .charge-columns .ensures .0, (long ∙ sym (activities-count p), omega (arith, long, activities-most p)))
-
-actual-units-requires-2 : tie.Need-actual-units-requires-2
-actual-units-requires-2 c κs =
-    let s = c .before .before .before .before .before .before .before .before .before .before .before .before .before .before .before .before .before .before .before .before .before .before .before .before .before .before .before .before .before .before .before .before .before .before .before .before .before .before .before .before .before .before .before .before .before .before .before in
-    let p = s .pre .0 in
-    let long = s .pre .1 .1 .1 .rest .threeLong in
-    (c .before .before .before .before .before .before .before .before .before .before .before .before .before .before .before .before .before .before .before .before .before .before .before .before .before .before .before .before .charge-columns .ensures .0, (long ∙ sym (activities-count p), omega (arith, long, activities-most p)))
+    let all = sym (activities-count p) in
+    let rest = s .pre .1 .1 .1 .rest in
+    (c .before .before .before .before .before .before .before .before .before .before .before .before .before .before .before .before .before .before .before .before .before .before .before .charge-columns .ensures .0, ((rest .twoLong ∙ all, omega (arith, rest .twoLong, activities-most p)), (rest .threeLong ∙ all, omega (arith, rest .threeLong, activities-most p))))
 
 same-length : tie.Need-same-length
 same-length c = search needs
@@ -73,12 +67,12 @@ same-length-12 c = search needs
 
 returns : tie.Need-returns
 returns c =
-    let s = c .before .before .before .before .before .before .before .before .before .before .before .before .before .before .before .before .before .before .before .before .before .before .before .before .before .before .before .before .before .before .before .before .before .before .before .before .before .before .before .before .before .before .before .before .before .before .before .before .before in
+    let s = c .before .before .before .before .before .before .before .before .before .before .before .before .before .before .before .before .before .before .before .before .before .before .before .before .before .before .before .before .before .before .before .before .before .before .before .before .before .before .before .before .before .before .before .before .before in
     let book = content (s .args .book .now) in
     let all = sym (activities-count (s .pre .0)) in
     let sums = s .pre .1 .1 .1 .costs in
-    let tasks = c .before .before .before .before .before .before .before .before .before .before .before .before .before .before .before .before .before .before .before .before .before .before .before .before .before .before .before .before .before .before .before .before .before .before .before .before .before .before .before .before .kind-tasks .ensures in
-    let charged = c .before .before .before .before .before .before .before .before .before .before .before .before .before .before .before .before .before .before .before .before .before .before .before .before .before .before .before .before .before .before .charge-columns .ensures .1 .1 in
+    let tasks = c .before .before .before .before .before .before .before .before .before .before .before .before .before .before .before .before .before .before .before .before .before .before .before .before .before .before .before .before .before .before .before .before .before .before .before .before .kind-tasks .ensures in
+    let charged = c .before .before .before .before .before .before .before .before .before .before .before .before .before .before .before .before .before .before .before .before .before .before .before .before .before .before .charge-columns .ensures .1 .1 in
     let labor = s .args .labor .now in
     let nonlabor = s .args .nonlabor .now in
     let material = s .args .material .now in (
@@ -87,7 +81,7 @@ returns c =
         cost-column book nonlabor (sums .twoLong ∙ all) Nonlabor _ _ refl (charged .1 .0 ∙ ap (λ (t : Tasks). chargedAfresh book (t .two) nonlabor) tasks),
         (
           cost-column book material (sums .threeLong ∙ all) Material _ _ refl (charged .1 .1 ∙ ap (λ (t : Tasks). chargedAfresh book (t .three) material) tasks),
-          (c .before .before .before .before .before .before .before .before .before .before .before .before .before .actual-expenses .ensures, (c .before .before .before .before .before .before .before .actual-units .ensures, c .before .actual-units2 .ensures)),
+          (c .before .before .before .before .before .before .before .before .before .actual-expenses .ensures, c .before .before .both-units .ensures),
         ),
       ),
     )
@@ -99,8 +93,7 @@ all-kinds-spec =
     (λ c κs. tt)
     charge-columns-requires
     actual-expenses-requires
-    actual-units-requires
-    actual-units-requires-2
+    both-units-requires
     same-length
     same-length-2
     same-length-3

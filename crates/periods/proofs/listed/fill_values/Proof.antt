@@ -1,5 +1,4 @@
 -- `fill_values` meets its contract: the columns once, then each date.
-use mathlib.Core.Path.{_∙_}
 use borrow.Author.Needs.{needs}
 use Rattle.periods.proofs.Made.{listed-made}
 use Rattle.periods.proofs.listed.fill_values.Statement.{statement}
@@ -7,20 +6,21 @@ use Rattle.periods.proofs.listed.fill_values.Tie as tie
 
 list-budgets-requires : tie.Need-list-budgets-requires
 list-budgets-requires c κs =
-    let s = c .before .before .before .before .before .before .before .before .before .before .before .before .before .before .before .before in
-    (s .pre .0, (s .pre .1 .0, (s .pre .1 .1 .0, (s .pre .1 .1 .1 .0 .0, s .pre .1 .1 .1 .1 .0))))
+    let s = c .before .before .before .before .before .before .before .before .before .before .before in
+    let long = s .pre .1 .1 .1 .0 in
+    (s .pre .0, (s .pre .1 .0, (s .pre .1 .1 .0, (long .firstLong, long .lastLong, long .budgetsLong))))
 
 fill-calendars-requires : tie.Need-fill-calendars-requires
-fill-calendars-requires c κs = c .before .before .before .before .before .before .before .before .before .before .before .before .before .before .before .before .before .before .before .before .before .before .before .before .before .before .before .before .pre .1 .1 .1 .0 .1
+fill-calendars-requires c κs = c .before .before .before .before .before .before .before .before .before .before .before .before .before .before .before .before .before .before .pre .1 .1 .1 .0 .calendarsLong
 
 fill-planned-requires : tie.Need-fill-planned-requires
 fill-planned-requires c κs =
-    let s = c .before .before .before .before .before .before .before .before .before .before .before .before .before .before .before .before .before .before .before .before .before .before .before .before .before .before .before .before .before .before .before .before .before .before .before .before .before in
+    let s = c .before .before .before .before .before .before .before .before .before .before .before .before .before .before .before .before .before .before .before .before .before .before .before .before .before .before .before in
     let p = s .pre .0 in
     let marks = s .pre .1 .1 .0 in
-    let made = c .before .before .before .before .before .before .before .before .before .before .before .before .before .before .before .before .before .before .before .before .list-budgets .ensures in
-    let own = c .before .before .before .before .before .before .before .before .before .before .before .rest .given ∙ s .pre .1 .1 .1 .1 .0 .1 in
-    (p .accepted, (p .calendars, (rw own (listed-made p (made .0) (made .1 .0) (made .1 .1) (c .before .before .before .before .before .before .before .before .fill-calendars .ensures) (marks .0) (marks .1)), s .pre .1 .1 .1 .1 .1)))
+    let made = c .before .before .before .before .before .before .before .before .before .before .before .before .before .before .before .list-budgets .ensures in
+    let own = s .pre .1 .1 .1 .1 in
+    (p .accepted, (p .calendars, (rw (own .0) (listed-made p (made .0) (made .1 .0) (made .1 .1) (c .before .before .before .before .before .before .before .before .fill-calendars .ensures) (marks .0) (marks .1)), own .1)))
 
 same-length : tie.Need-same-length
 same-length c = search needs
@@ -40,15 +40,6 @@ same-length-5 c = search needs
 same-length-6 : tie.Need-same-length-6
 same-length-6 c = search needs
 
-same-length-7 : tie.Need-same-length-7
-same-length-7 c = search needs
-
-same-length-8 : tie.Need-same-length-8
-same-length-8 c = search needs
-
-same-length-9 : tie.Need-same-length-9
-same-length-9 c = search needs
-
 returns : tie.Need-returns
 returns c = search needs
 
@@ -65,7 +56,4 @@ fill-values-spec =
     same-length-4
     same-length-5
     same-length-6
-    same-length-7
-    same-length-8
-    same-length-9
     returns)

@@ -1,26 +1,48 @@
--- `list_budgets` meets its contract: what the baseline says, then what is charged, then the budgets.
-use native.Mathlib.Omega.{arith}
+-- `list_budgets` meets its contract: columns as long as the book has activities.
+use mathlib.Core.Path.{sym}
+use lib.Seq.{length-take-le}
 use borrow.Author.Needs.{needs}
-use Rattle.format.specs.Verdict.{content}
+use Rattle.book.proofs.Plan.{activities-most}
 use Rattle.periods.proofs.listed.list_budgets.Statement.{statement}
 use Rattle.periods.proofs.listed.list_budgets.Tie as tie
 
-fill-listed-requires : tie.Need-fill-listed-requires
-fill-listed-requires c κs = search needs
+array-borrow-prefix-lined : tie.Need-array-borrow-prefix-lined
+array-borrow-prefix-lined c = activities-most (c .before .before .before .before .before .before .before .pre .0)
 
-cost-columns-requires : tie.Need-cost-columns-requires
-cost-columns-requires c κs = search needs
+slice-aggregate-list-in : tie.Need-slice-aggregate-list-in
+slice-aggregate-list-in c = sym (length-take-le _ _ (array-borrow-prefix-lined (c .before)))
 
-own-budgets-requires : tie.Need-own-budgets-requires
-own-budgets-requires c κs =
-    let s = c .before .before .before .before .before .before .before .before .before .before .before .before .before .before .before .before .before .before .before .before .before .before .before .before .before .before .before .before in
-    let long = s .pre .1 .1 .1 .0 in
-    let lens = s .pre .1 .1 .1 .1 in
-    let out = c .before .before .before .before .before .budgets .given in (
-      omega (arith, out, lens .2, c .before .before .before .before .before .before .before .before .before .before .before .before .before .lined .given, long .marksLong),
-      omega (arith, out, lens .2, c .before .before .before .before .before .before .before .before .before .before .before .frozen .given, long .costsLong),
-      omega (arith, out, lens .2, s .pre .1 .1 .0 .1),
-      omega (arith, out, lens .2, c .before .before .before .before .before .before .planned .given, lens .0),
+array-borrow-prefix-frozen : tie.Need-array-borrow-prefix-frozen
+array-borrow-prefix-frozen c = activities-most (c .before .before .before .before .before .before .before .before .pre .0)
+
+slice-aggregate-list-in-2 : tie.Need-slice-aggregate-list-in-2
+slice-aggregate-list-in-2 c = sym (length-take-le _ _ (array-borrow-prefix-frozen (c .before)))
+
+array-borrow-prefix-planned : tie.Need-array-borrow-prefix-planned
+array-borrow-prefix-planned c = activities-most (c .before .before .before .before .before .before .before .before .before .pre .0)
+
+slice-aggregate-list-in-3 : tie.Need-slice-aggregate-list-in-3
+slice-aggregate-list-in-3 c = sym (length-take-le _ _ (array-borrow-prefix-planned (c .before)))
+
+array-borrow-prefix-rest : tie.Need-array-borrow-prefix-rest
+array-borrow-prefix-rest c = activities-most (c .before .before .before .before .before .before .before .before .before .before .pre .0)
+
+slice-aggregate-list-in-4 : tie.Need-slice-aggregate-list-in-4
+slice-aggregate-list-in-4 c = sym (length-take-le _ _ (array-borrow-prefix-rest (c .before)))
+
+list-in-requires : tie.Need-list-in-requires
+list-in-requires c κs =
+    let s = c .before .before .before .before .before .before .before .before .before .before .before .before in
+    let most = activities-most (s .pre .0) in
+    let long = s .pre .1 .1 .1 in (
+      s .pre .0,
+      (
+        s .pre .1 .0,
+        (
+          s .pre .1 .1 .0,
+          (record { firstLong = long .0; lastLong = long .1; marksLong = length-take-le _ _ most; costsLong = length-take-le _ _ most }, (length-take-le _ _ most, length-take-le _ _ most, long .2)),
+        ),
+      ),
     )
 
 same-length : tie.Need-same-length
@@ -32,42 +54,23 @@ same-length-2 c = search needs
 same-length-3 : tie.Need-same-length-3
 same-length-3 c = search needs
 
-same-length-4 : tie.Need-same-length-4
-same-length-4 c = search needs
-
-same-length-5 : tie.Need-same-length-5
-same-length-5 c = search needs
-
-same-length-6 : tie.Need-same-length-6
-same-length-6 c = search needs
-
-same-length-7 : tie.Need-same-length-7
-same-length-7 c = search needs
-
 returns : tie.Need-returns
-returns c =
-    let s = c .before .before .before .before .before .before .before .before .before .before .before .before .before .before .before .before .before .before .before .before .before .before .before .before .before .before .before .before .before .before in
-    let listed = c .before .before .before .before .before .before .before .before .before .before .before .before .before .before .before .before .before .before .before .before .fill-listed .ensures in (
-      listed .0,
-      (
-        listed .1 .0,
-        c .before .own-budgets .ensures (content (s .args .book .now))
-            (record { linedAre = listed .1 .1 .0; costsAre = listed .1 .1 .1; marksAre = s .pre .1 .1 .0 .0; plannedAre = c .before .before .before .before .before .before .before .before .before .cost-columns .ensures .0 }),
-      ),
-    )
+returns c = search needs
 
 pub list-budgets-spec : {M : Type 1} → statement M
 list-budgets-spec =
     tie.close
     (tie.spec
-    fill-listed-requires
-    cost-columns-requires
-    own-budgets-requires
+    array-borrow-prefix-lined
+    slice-aggregate-list-in
+    array-borrow-prefix-frozen
+    slice-aggregate-list-in-2
+    array-borrow-prefix-planned
+    slice-aggregate-list-in-3
+    array-borrow-prefix-rest
+    slice-aggregate-list-in-4
+    list-in-requires
     same-length
     same-length-2
     same-length-3
-    same-length-4
-    same-length-5
-    same-length-6
-    same-length-7
     returns)

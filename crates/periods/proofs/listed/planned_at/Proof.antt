@@ -8,7 +8,7 @@ use Rattle.format.specs.Verdict.{content}
 use Rattle.model.proofs.EarnedValue.{earned-figures}
 use Rattle.tree.specs.Figures.{unmarkedSum}
 use Rattle.planned.proofs.Figures.{own-planned-is}
-use Rattle.periods.proofs.Project.{project-figure}
+use Rattle.rows.proofs.Rolled.{leaf-values}
 use Rattle.periods.proofs.listed.planned_at.Statement.{statement}
 use Rattle.periods.proofs.listed.planned_at.Tie as tie
 
@@ -35,7 +35,7 @@ returns c =
     ∙ ap (unmarkedSum marks)
     (c .before .before .before .own-planned .ensures
     ∙ own-planned-is b (s .args .date) (s .args .first .now) (s .args .last .now) (s .args .calendars .now) (s .args .budgets .now) (length (s .args .own .now)) (listed .all) (listed .days) (listed .amounts))
-    ∙ project-figure (λ e. e .planned) (earned-figures .1) refl b (s .args .date) marks (listed .marked)
+    ∙ leaf-values (λ e. e .planned) (earned-figures .1) b (s .args .date) marks (listed .marked) refl
 
 pub planned-at-spec : {M : Type 1} → statement M
 planned-at-spec = tie.close (tie.spec own-planned-requires leaf-sum-requires same-length returns)

@@ -18,58 +18,34 @@ array-borrow-prefix-last c = activities-most (c .before .before .before .before 
 slice-aggregate-fill-values-2 : tie.Need-slice-aggregate-fill-values-2
 slice-aggregate-fill-values-2 c = sym (length-take-le _ _ (array-borrow-prefix-last (c .before)))
 
-array-borrow-prefix-lined : tie.Need-array-borrow-prefix-lined
-array-borrow-prefix-lined c = activities-most (c .before .before .before .before .before .before .pre .0)
+array-borrow-prefix-calendars : tie.Need-array-borrow-prefix-calendars
+array-borrow-prefix-calendars c = activities-most (c .before .before .before .before .before .before .pre .0)
 
 slice-aggregate-fill-values-3 : tie.Need-slice-aggregate-fill-values-3
-slice-aggregate-fill-values-3 c = sym (length-take-le _ _ (array-borrow-prefix-lined (c .before)))
-
-array-borrow-prefix-calendars : tie.Need-array-borrow-prefix-calendars
-array-borrow-prefix-calendars c = activities-most (c .before .before .before .before .before .before .before .pre .0)
-
-slice-aggregate-fill-values-4 : tie.Need-slice-aggregate-fill-values-4
-slice-aggregate-fill-values-4 c = sym (length-take-le _ _ (array-borrow-prefix-calendars (c .before)))
-
-array-borrow-prefix-frozen : tie.Need-array-borrow-prefix-frozen
-array-borrow-prefix-frozen c = activities-most (c .before .before .before .before .before .before .before .before .pre .0)
-
-slice-aggregate-fill-values-5 : tie.Need-slice-aggregate-fill-values-5
-slice-aggregate-fill-values-5 c = sym (length-take-le _ _ (array-borrow-prefix-frozen (c .before)))
-
-array-borrow-prefix-planned : tie.Need-array-borrow-prefix-planned
-array-borrow-prefix-planned c = activities-most (c .before .before .before .before .before .before .before .before .before .pre .0)
-
-slice-aggregate-fill-values-6 : tie.Need-slice-aggregate-fill-values-6
-slice-aggregate-fill-values-6 c = sym (length-take-le _ _ (array-borrow-prefix-planned (c .before)))
-
-array-borrow-prefix-rest : tie.Need-array-borrow-prefix-rest
-array-borrow-prefix-rest c = activities-most (c .before .before .before .before .before .before .before .before .before .before .pre .0)
-
-slice-aggregate-fill-values-7 : tie.Need-slice-aggregate-fill-values-7
-slice-aggregate-fill-values-7 c = sym (length-take-le _ _ (array-borrow-prefix-rest (c .before)))
+slice-aggregate-fill-values-3 c = sym (length-take-le _ _ (array-borrow-prefix-calendars (c .before)))
 
 array-borrow-prefix-budgets : tie.Need-array-borrow-prefix-budgets
-array-borrow-prefix-budgets c = activities-most (c .before .before .before .before .before .before .before .before .before .before .before .pre .0)
+array-borrow-prefix-budgets c = activities-most (c .before .before .before .before .before .before .before .pre .0)
 
-slice-aggregate-fill-values-8 : tie.Need-slice-aggregate-fill-values-8
-slice-aggregate-fill-values-8 c = sym (length-take-le _ _ (array-borrow-prefix-budgets (c .before)))
+slice-aggregate-fill-values-4 : tie.Need-slice-aggregate-fill-values-4
+slice-aggregate-fill-values-4 c = sym (length-take-le _ _ (array-borrow-prefix-budgets (c .before)))
+
+array-borrow-prefix-own : tie.Need-array-borrow-prefix-own
+array-borrow-prefix-own c = activities-most (c .before .before .before .before .before .before .before .before .pre .0)
+
+slice-aggregate-fill-values-5 : tie.Need-slice-aggregate-fill-values-5
+slice-aggregate-fill-values-5 c = sym (length-take-le _ _ (array-borrow-prefix-own (c .before)))
 
 fill-values-requires : tie.Need-fill-values-requires
 fill-values-requires c κs =
-    let s = c .before .before .before .before .before .before .before .before .before .before .before .before .before in
+    let s = c .before .before .before .before .before .before .before .before .before .before in
     let most = activities-most (s .pre .0) in (
       s .pre .0,
       (
         s .pre .1 .0,
         (
           s .pre .1 .1 .0,
-          (
-            (
-              record { firstLong = length-take-le _ _ most; lastLong = length-take-le _ _ most; marksLong = length-take-le _ _ most; costsLong = length-take-le _ _ most },
-              length-take-le _ _ most,
-            ),
-            ((length-take-le _ _ most, length-take-le _ _ most, length-take-le _ _ most), s .pre .1 .1 .1),
-          ),
+          (record { firstLong = length-take-le _ _ most; lastLong = length-take-le _ _ most; calendarsLong = length-take-le _ _ most; budgetsLong = length-take-le _ _ most }, (length-take-le _ _ most, s .pre .1 .1 .1)),
         ),
       ),
     )
@@ -88,18 +64,12 @@ project-planned-spec =
     slice-aggregate-fill-values
     array-borrow-prefix-last
     slice-aggregate-fill-values-2
-    array-borrow-prefix-lined
-    slice-aggregate-fill-values-3
     array-borrow-prefix-calendars
-    slice-aggregate-fill-values-4
-    array-borrow-prefix-frozen
-    slice-aggregate-fill-values-5
-    array-borrow-prefix-planned
-    slice-aggregate-fill-values-6
-    array-borrow-prefix-rest
-    slice-aggregate-fill-values-7
+    slice-aggregate-fill-values-3
     array-borrow-prefix-budgets
-    slice-aggregate-fill-values-8
+    slice-aggregate-fill-values-4
+    array-borrow-prefix-own
+    slice-aggregate-fill-values-5
     fill-values-requires
     same-length
     returns)

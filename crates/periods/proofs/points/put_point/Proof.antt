@@ -1,15 +1,17 @@
--- `put_point` meets its contract: three numbers, then two figures that may be absent.
+-- `put_point` meets its contract: three numbers, then two that may be absent.
 use Prim.Native.Nat.{_+_}
 use native.Mathlib.Omega.{arith}
 use mathlib.Core.Path.{_∙_}
+use mathlib.Core.Option.{Option·map}
 use lib.ListN.{set, length-set}
 use mir.Facts.{toZ-ofZ}
 use borrow.Author.Needs.{needs}
 use Rattle.money.specs.Words.{bits}
-use Rattle.rows.specs.Rows.{optionalBits}
+use Rattle.rows.specs.Rows.{optional}
+use Rattle.rows.proofs.Sets.{optional-two}
 use Rattle.periods.specs.Rows.{periodRow}
 use Rattle.periods.specs.Columns.{toDateIn, pointOf}
-use Rattle.periods.proofs.Written.{row-written, head-length, optional-two}
+use Rattle.periods.proofs.Written.{row-written, head-length}
 use Rattle.periods.proofs.points.put_point.Statement.{statement}
 use Rattle.periods.proofs.points.put_point.Tie as tie
 
@@ -79,8 +81,8 @@ returns c =
     let date = s .args .date in
     let periods = s .args .periods .now in
     let closes = s .args .closes .now in
-    let worth = toDateIn periods closes (s .args .earned .now) p date in
-    let spent = toDateIn periods closes (s .args .actual .now) p date in
+    let worth = Option·map bits (toDateIn periods closes (s .args .earned .now) p date) in
+    let spent = Option·map bits (toDateIn periods closes (s .args .actual .now) p date) in
     rw (
       c .before .before .put-optional2 .ensures,
       c .before .before .before .before .before .before .put-optional .ensures,
@@ -89,7 +91,7 @@ returns c =
       c .before .before .before .before .before .before .before .before .to-bits .ensures,
       toZ-ofZ (s .fits .planned),
     )
-    (row-written (s .args .out .now) (s .args .at) p date (bits (s .args .planned)) (optionalBits worth) (optionalBits spent) (optional-two worth))
+    (row-written (s .args .out .now) (s .args .at) p date (bits (s .args .planned)) (optional worth) (optional spent) (optional-two worth))
 
 pub put-point-spec : {M : Type 1} → statement M
 put-point-spec =

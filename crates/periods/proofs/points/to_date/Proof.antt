@@ -10,13 +10,18 @@ use Rattle.periods.proofs.points.to_date.Tie as tie
 sum-to-requires : tie.Need-sum-to-requires
 sum-to-requires c κs = search needs
 
+to-bits-requires : tie.Need-to-bits-requires
+to-bits-requires c κs = search needs
+
 returns : tie.Need-returns
 unfolding toDateIn
-returns c = rw (← c .before .before .is-stored .ensures, c .before .if1 .taken, back w64 (c .sum-to .result) (c .sum-to .ok), c .sum-to .ensures) refl
+returns c =
+    let sum = c .before .sum-to in
+    rw (← c .before .before .before .is-stored .ensures, c .before .before .if1 .taken, c .to-bits .ensures, back w64 (sum .result) (sum .ok), sum .ensures) refl
 
 returns-2 : tie.Need-returns-2
 unfolding toDateIn
 returns-2 c = rw (← c .before .is-stored .ensures, c .if1 .left) refl
 
 pub to-date-spec : {M : Type 1} → statement M
-to-date-spec = tie.close (tie.spec (λ c κs. tt) sum-to-requires returns returns-2)
+to-date-spec = tie.close (tie.spec (λ c κs. tt) sum-to-requires to-bits-requires returns returns-2)

@@ -7,7 +7,7 @@ use Rattle.format.specs.Book as content
 use Rattle.format.specs.Format as layout
 use Rattle.records.specs.Decoded.{assignmentOf}
 use Rattle.book.specs.Sections.{elements}
-use Rattle.spending.specs.Charges.{ownerOf, sourceOf}
+use Rattle.charges.specs.Assigned.{ownerOf, sourceOf}
 use Rattle.spending.proofs.Setting.{Setting, setting-none, setting-more, setting-end}
 use borrow.Author.Needs.{needs}
 use Rattle.spending.proofs.columns.fill_assignments.Statement.{statement}

@@ -4,7 +4,7 @@ use lib.ListN.{replicate}
 use Rattle.format.specs.Book.{Assignment, Expense}
 use Rattle.format.specs.Enumeration.{accrualNumber}
 use Rattle.book.proofs.Plan.{resources-most, assignments-most, expenses-most}
-use Rattle.spending.specs.Charges.{ownerOf, sourceOf}
+use Rattle.charges.specs.Assigned.{ownerOf, sourceOf}
 use Rattle.spending.proofs.Assigning.{charges-are, set-both}
 use borrow.Author.Needs.{needs}
 use Rattle.spending.proofs.columns.fill_charges.Statement.{statement}

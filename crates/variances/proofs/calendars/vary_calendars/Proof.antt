@@ -50,12 +50,12 @@ vary-calendar-requires c κs =
     let inv = c .before .before .before .before .before .before .loop .inv in
     let read = c .before .before .before .before in
     let x = calendarOf (a .book .now) (read .read-calendar .result) in
-    let long = s .pre .1 .1 .1 .0 in
-    let room = s .pre .1 .1 .1 .1 in (
+    let under = s .pre .1 .0 in
+    let room = s .pre .1 .1 in (
       subst CalendarInRange (is-next read x) (s .pre .0 (c .before .before .before .before .before .before .loop .k) x (omega (arith, c .before .before .before .before .before .loop-test .taken, read-length calendar (a .book .now) (a .list .count) (a .list .first)))),
       (
-        s .pre .1 .1 .0,
-        ((inv .3 .long ∙ long .0, inv .4 .long ∙ long .1), record { daysRoom = omega (arith, room .daysRoom, inv .1); countsRoom = omega (arith, room .countsRoom, inv .2) }),
+        under .dates,
+        ((inv .3 .long ∙ under .startLong, inv .4 .long ∙ under .finishLong), record { daysRoom = omega (arith, room .daysRoom, inv .1); countsRoom = omega (arith, room .countsRoom, inv .2) }),
       ),
     )
 
@@ -100,9 +100,9 @@ unfolding elements
 returns c =
     let s = c .before .before .before .before .before .before .before .before .before .before in
     let inv = c .before .loop .inv in
-    let long = s .pre .1 .1 .1 .0 in (
-      replaced-all (λ i h. omega (arith, c .loop-test .left, s .pre .1 .0 i (omega (arith, long .0)))) (inv .3),
-      replaced-all (λ i h. omega (arith, c .loop-test .left, s .pre .1 .0 i (omega (arith, long .1)))) (inv .4),
+    let under = s .pre .1 .0 in (
+      replaced-all (λ i h. omega (arith, c .loop-test .left, under .named i (omega (arith, under .startLong)))) (inv .3),
+      replaced-all (λ i h. omega (arith, c .loop-test .left, under .named i (omega (arith, under .finishLong)))) (inv .4),
     )
 
 pub vary-calendars-spec : {M : Type 1} → statement M

@@ -1,9 +1,11 @@
 -- `roll_costs` meets its contract: what is charged to the activities, rolled up.
 use mathlib.Core.Path.{ap, _∙_}
 use Rattle.format.specs.Verdict.{content}
+use Rattle.model.specs.Costs.{ownCost}
+use Rattle.model.proofs.Costs.{figures}
 use Rattle.activities.proofs.Plans.{plan-parents}
 use Rattle.tree.specs.Figures.{rolledUp}
-use Rattle.variances.proofs.Rolled.{actual-rolled, remaining-rolled}
+use Rattle.rows.proofs.Rolled.{rolled-costs}
 use borrow.Author.Needs.{needs}
 use Rattle.variances.proofs.completion.roll_costs.Statement.{statement}
 use Rattle.variances.proofs.completion.roll_costs.Tie as tie
@@ -33,13 +35,14 @@ same-length-4 : tie.Need-same-length-4
 same-length-4 c = search needs
 
 returns : tie.Need-returns
+unfolding ownCost
 returns c =
     let s = c .before .before .before .before .before .before .before .before .before .before .before .before .before .before .before .before .before .before .before .before .before .before .before .before .before in
     let parents = plan-parents (s .pre .0) (c .before .before .before .before .before .before .before .before .before .before .before .before .before .before .before .before .before .before .before .fill-parents .ensures) in
     let book = content (s .args .book .now) in
     let own = c .before .before .before .before .before .before .before .before .before .before .before .before .before .cost-columns .ensures in (
-      c .before .before .before .before .before .before .roll-up .ensures ∙ ap (rolledUp _) (own .1 .0) ∙ actual-rolled book _ parents,
-      c .before .roll-up2 .ensures ∙ ap (rolledUp _) (own .1 .1) ∙ remaining-rolled book _ parents,
+      c .before .before .before .before .before .before .roll-up .ensures ∙ ap (rolledUp _) (own .1 .0) ∙ rolled-costs (λ k. k .actual) (figures .1) book _ parents,
+      c .before .roll-up2 .ensures ∙ ap (rolledUp _) (own .1 .1) ∙ rolled-costs (λ k. k .remaining) (figures .2) book _ parents,
     )
 
 pub roll-costs-spec : {M : Type 1} → statement M

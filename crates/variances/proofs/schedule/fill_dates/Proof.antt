@@ -24,9 +24,8 @@ vary-dates-requires c κs =
     let starts = given .1 .0 in
     let finishes = given .1 .1 .0 in
     let columns = given .1 .1 .1 .0 in
-    let figures = given .1 .1 .1 .1 .0 in
     let spans = c .before .before .before .before .before .before .before .before .before .before .before .before .before .fill-spans .ensures in
-    let long = c .before .before .before .before .before .before .calendars .given ∙ columns .2 in (
+    let long = c .before .before .before .before .before .before .calendars .given ∙ columns .calendarsLong in (
       calendars-in-range plan,
       (
         (λ i h. plan-calendar plan (c .before .before .before .before .before .before .before .fill-calendars .ensures) i (omega (arith, long))),
@@ -34,11 +33,11 @@ vary-dates-requires c κs =
           record {
             startsLong = lastly-long plan startOf 0 starts ∙ sym long;
             finishesLong = lastly-long plan finishOf 0 finishes ∙ sym long;
-            beginsLong = c .before .before .before .before .before .before .before .before .before .before .before .before .begins .given ∙ columns .0 ∙ sym long;
-            endsLong = c .before .before .before .before .before .before .before .before .before .before .ends .given ∙ columns .1 ∙ sym long;
+            beginsLong = c .before .before .before .before .before .before .before .before .before .before .before .before .begins .given ∙ columns .beginsLong ∙ sym long;
+            endsLong = c .before .before .before .before .before .before .before .before .before .before .ends .given ∙ columns .endsLong ∙ sym long;
             both = both-dated plan starts finishes;
           },
-          ((starts-in-range plan starts (spans .0), finishes-in-range plan finishes (spans .1)), (figures .0 ∙ sym long, figures .1 ∙ sym long)),
+          ((starts-in-range plan starts (spans .0), finishes-in-range plan finishes (spans .1)), (columns .startLong ∙ sym long, columns .finishLong ∙ sym long)),
         ),
       ),
     )
@@ -46,12 +45,12 @@ vary-dates-requires c κs =
 put-column-requires : tie.Need-put-column-requires
 put-column-requires c κs =
     let given = c .before .before .before .before .before .before .before .before .before .before .before .before .before .before .before .before .before .before .before .before .before .before .before .before .before .before .before .before .before .before .pre in
-    (omega arith, omega (arith, c .before .before .before .start .given, given .1 .1 .1 .1 .0 .0, given .1 .1 .1 .1 .1 .1), omega arith)
+    (omega arith, omega (arith, c .before .before .before .start .given, given .1 .1 .1 .0 .startLong, given .1 .1 .1 .1), omega arith)
 
 put-column-requires-2 : tie.Need-put-column-requires-2
 put-column-requires-2 c κs =
     let given = c .before .before .before .before .before .before .before .before .before .before .before .before .before .before .before .before .before .before .before .before .before .before .before .before .before .before .before .before .before .before .before .before .before .before .before .pre in
-    (omega arith, omega (arith, c .before .before .before .before .before .before .before .finish .given, given .1 .1 .1 .1 .0 .1, c .before .before .before .out .given, given .1 .1 .1 .1 .1 .1), omega arith)
+    (omega arith, omega (arith, c .before .before .before .before .before .before .before .finish .given, given .1 .1 .1 .0 .finishLong, c .before .before .before .out .given, given .1 .1 .1 .1), omega arith)
 
 same-length : tie.Need-same-length
 same-length c = search needs
@@ -76,14 +75,13 @@ returns c =
     let s = c .before .before .before .before .before .before .before .before .before .before .before .before .before .before .before .before .before .before .before .before .before .before .before .before .before .before .before .before .before .before .before .before .before .before .before .before .before .before in
     let given = s .pre in
     let plan = given .0 in
-    let figures = given .1 .1 .1 .1 .0 in
-    let blank = given .1 .1 .1 .1 .1 .0 in
+    let columns = given .1 .1 .1 .0 in
     let spans = c .before .before .before .before .before .before .before .before .before .before .before .before .before .before .before .before .before .before .before .before .before .before .before .before .before .before .fill-spans .ensures in
     let named = c .before .before .before .before .before .before .before .before .before .before .before .before .before .before .before .before .before .before .before .before .fill-calendars .ensures in
     let varied = c .before .before .before .before .before .before .before .before .before .before .before .before .vary-dates .ensures in
     c .before .before .put-column2 .ensures
-    ∙ ap₂ (placed 5 2) (finishes-made plan named (figures .1) (blank .1) (given .1 .1 .0) (spans .1) (varied .1))
-    (c .before .before .before .before .before .before .before .put-column .ensures ∙ ap (λ (column : List ℤ). placed 5 1 column (s .args .out .now)) (starts-made plan named (figures .0) (blank .0) (given .1 .0) (spans .0) (varied .0)))
+    ∙ ap₂ (placed 5 2) (finishes-made plan named (columns .finishLong) (columns .finishBlank) (given .1 .1 .0) (spans .1) (varied .1))
+    (c .before .before .before .before .before .before .before .put-column .ensures ∙ ap (λ (column : List ℤ). placed 5 1 column (s .args .out .now)) (starts-made plan named (columns .startLong) (columns .startBlank) (given .1 .0) (spans .0) (varied .0)))
 
 pub fill-dates-spec : {M : Type 1} → statement M
 fill-dates-spec =

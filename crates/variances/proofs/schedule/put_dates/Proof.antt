@@ -58,8 +58,16 @@ fill-dates-requires c κs =
         (
           given .1 .1 .0,
           (
-            (length-take-le _ _ (room s) ∙ long, length-take-le _ _ (room s) ∙ long, length-take-le _ _ (room s) ∙ long),
-            ((length-take-le _ _ (room s) ∙ long, length-take-le _ _ (room s) ∙ long), ((same-taken (pos 0) (length (s .args .starts .now)) 500, same-taken (pos 0) (length (s .args .starts .now)) 500), given .1 .1 .1)),
+            record {
+              beginsLong = length-take-le _ _ (room s) ∙ long;
+              endsLong = length-take-le _ _ (room s) ∙ long;
+              calendarsLong = length-take-le _ _ (room s) ∙ long;
+              startLong = length-take-le _ _ (room s) ∙ long;
+              finishLong = length-take-le _ _ (room s) ∙ long;
+              startBlank = same-taken (pos 0) (length (s .args .starts .now)) 500;
+              finishBlank = same-taken (pos 0) (length (s .args .starts .now)) 500;
+            },
+            given .1 .1 .1,
           ),
         ),
       ),

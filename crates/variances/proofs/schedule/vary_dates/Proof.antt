@@ -32,18 +32,21 @@ returns c =
       replaced-not (λ i h t. let w = finish .lines i (ltb-true 0 (getD (a .finishes .now) i 0) t) in omega (arith, c .if1 .taken, w .since, w .upTo)),
     )
 
-vary-short-requires : tie.Need-vary-short-requires
-vary-short-requires c κs =
-    let given = c .before .before .before .before .before .before .before .before .before .before .before .before .before .before .pre in
-    let all = c .before .before .before .before .before .before .reach2 .ensures in
-    let finish = all .1 in (
+vary-stretch-requires : tie.Need-vary-stretch-requires
+vary-stretch-requires c κs =
+    let given = c .before .before .before .before .before .before .before .before .before .before .before .before .pre in
+    let all = c .before .before .before .before .reach2 .ensures in
+    let finish = all .1 in
+    let start = wider-within (all .0) (finish .least) (finish .most) (c .before .before .before .before .before .reach .ensures .1) in (
       given .0,
       (
-        given .1 .0,
-        (
-          record { paired = given .1 .1 .0; start = wider-within (all .0) (finish .least) (finish .most) (c .before .before .before .before .before .before .before .reach .ensures .1); finish = finish },
-          (given .1 .1 .1 .1, omega (arith, c .before .before .before .before .if1 .left, c .before .before .if2 .taken)),
-        ),
+        record {
+          dates = record { paired = given .1 .1 .0; start = start; finish = finish };
+          named = given .1 .0;
+          startLong = given .1 .1 .1 .1 .0;
+          finishLong = given .1 .1 .1 .1 .1;
+        },
+        c .before .before .if1 .left,
       ),
     )
 
@@ -56,39 +59,5 @@ same-length-2 c = search needs
 returns-2 : tie.Need-returns-2
 returns-2 c = search needs
 
-vary-long-requires : tie.Need-vary-long-requires
-vary-long-requires c κs =
-    let given = c .before .before .before .before .before .before .before .before .before .before .before .before .before .before .pre in
-    let all = c .before .before .before .before .before .before .reach2 .ensures in
-    let finish = all .1 in (
-      given .0,
-      (
-        given .1 .0,
-        (record { paired = given .1 .1 .0; start = wider-within (all .0) (finish .least) (finish .most) (c .before .before .before .before .before .before .before .reach .ensures .1); finish = finish }, given .1 .1 .1 .1),
-      ),
-    )
-
-same-length-3 : tie.Need-same-length-3
-same-length-3 c = search needs
-
-same-length-4 : tie.Need-same-length-4
-same-length-4 c = search needs
-
-returns-3 : tie.Need-returns-3
-returns-3 c = search needs
-
 pub vary-dates-spec : {M : Type 1} → statement M
-vary-dates-spec =
-    tie.close
-    (tie.spec
-    reach-requires
-    reach-requires-2
-    returns
-    vary-short-requires
-    same-length
-    same-length-2
-    returns-2
-    vary-long-requires
-    same-length-3
-    same-length-4
-    returns-3)
+vary-dates-spec = tie.close (tie.spec reach-requires reach-requires-2 returns vary-stretch-requires same-length same-length-2 returns-2)

@@ -13,8 +13,8 @@ slice-aggregate-vary-calendars-2 c = search needs
 vary-calendars-requires : tie.Need-vary-calendars-requires
 vary-calendars-requires c κs =
     let given = c .before .before .before .before .before .before .before .before .before .before .pre in
-    let dates = given .1 .1 .0 in
-    (given .0, (given .1 .0, (dates, (given .1 .1 .1, record { daysRoom = omega (arith, dates .start .least, dates .start .most); countsRoom = omega (arith, dates .start .least, dates .start .most) }))))
+    let all = given .1 .dates .start in
+    (given .0, (given .1, record { daysRoom = omega (arith, all .least, all .most); countsRoom = omega (arith, all .least, all .most) }))
 
 same-length : tie.Need-same-length
 same-length c = search needs

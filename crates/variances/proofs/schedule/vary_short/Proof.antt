@@ -13,8 +13,8 @@ slice-aggregate-vary-calendars-2 c = search needs
 vary-calendars-requires : tie.Need-vary-calendars-requires
 vary-calendars-requires c κs =
     let given = c .before .before .before .before .before .before .before .before .before .before .pre in
-    let room = given .1 .1 .1 .1 in
-    (given .0, (given .1 .0, (given .1 .1 .0, (given .1 .1 .1 .0, record { daysRoom = omega (arith, room); countsRoom = omega (arith, room) }))))
+    let room = given .1 .1 in
+    (given .0, (given .1 .0, record { daysRoom = omega (arith, room); countsRoom = omega (arith, room) }))
 
 same-length : tie.Need-same-length
 same-length c = search needs

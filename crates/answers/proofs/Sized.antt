@@ -1,0 +1,33 @@
+-- Rows of one width: how many numbers they have, and what is answered with them where all that is asked may be asked.
+use Prim.Native.Nat.{ℕ, _*_, _≤_, _<_}
+use mathlib.Core.Path.{_≡_, sym, ap, _∙_}
+use mathlib.Core.List.{List, [], _∷_, _++_, map, flatMap}
+use native.Mathlib.Omega.{arith}
+use lib.ListN.{length, drop, length-map, length-append}
+use Rattle.format.specs.Book.{Book}
+use Rattle.rows.specs.Rows.{numbers}
+use Rattle.answers.specs.declared.Reply.the-variants.{Accepted, Refused}
+use Rattle.answers.specs.Rows.{Rows}
+use Rattle.answers.specs.Calls.{Asked, Answers}
+use Rattle.answers.proofs.Replies.{Askable, too-short, filled}
+
+-- so many rows, each of so many numbers
+pub record Sized (rows : Rows) (count width : ℕ) : Type 0 where
+  pub many : length rows ≡ count
+  pub long : length (numbers rows) ≡ count * width
+
+module _ {A : Type 0} (row : A → List ℕ) (width : ℕ) (wide : (x : A) → length (row x) ≡ width) where
+  numbers-length : (xs : List A) → length (numbers (map row xs)) ≡ length xs * width
+  unfolding numbers flatMap
+  numbers-length [] = omega arith
+  numbers-length (x ∷ xs) = length-append (row x) (numbers (map row xs)) ∙ omega (arith, wide x, numbers-length xs)
+
+  pub sized : (xs : List A) (count : ℕ) → length xs ≡ count → Sized (map row xs) count width
+  sized xs count e = record { many = length-map xs row ∙ e; long = numbers-length xs ∙ ap (λ (n : ℕ). n * width) e }
+
+module _ {asked : Asked} (rows : Book → Rows) (book : Book) (out : List ℕ) (ok : Askable asked book) {count width : ℕ} (size : Sized (rows book) count width) where
+  pub no-room : length out < count * width → Answers asked rows book out (Refused 10 0) out
+  no-room h = too-short asked rows book out ok (omega (arith, size .long))
+
+  pub in-front : count * width ≤ length out → (front : List ℕ) → front ≡ numbers (rows book) → Answers asked rows book out (Accepted count) (front ++ drop (count * width) out)
+  in-front h front e = filled asked rows book out ok count (sym (size .many)) (count * width) (sym (size .long)) h front e

@@ -1,0 +1,5 @@
+pub mod Answering
+pub mod Figures
+pub mod Made
+pub mod Earning
+pub mod Putting

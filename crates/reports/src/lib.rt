@@ -1,0 +1,3 @@
+// The rows of the calls by date, by period, by budget line and against the baseline.
+pub mod ledger;
+pub mod points;
