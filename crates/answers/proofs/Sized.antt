@@ -1,6 +1,6 @@
 -- Rows of one width: how many numbers they have, and what is answered with them where all that is asked may be asked.
 use Prim.Native.Nat.{ℕ, _*_, _≤_, _<_}
-use mathlib.Core.Path.{_≡_, sym, ap, _∙_}
+use mathlib.Core.Path.{_≡_, refl, sym, ap, _∙_}
 use mathlib.Core.List.{List, [], _∷_, _++_, map, flatMap}
 use native.Mathlib.Omega.{arith}
 use lib.ListN.{length, drop, length-map, length-append}
@@ -25,9 +25,19 @@ module _ {A : Type 0} (row : A → List ℕ) (width : ℕ) (wide : (x : A) → l
   pub sized : (xs : List A) (count : ℕ) → length xs ≡ count → Sized (map row xs) count width
   sized xs count e = record { many = length-map xs row ∙ e; long = numbers-length xs ∙ ap (λ (n : ℕ). n * width) e }
 
+no-numbers : (xs : List ℕ) → length xs ≡ 0 → xs ≡ []
+no-numbers [] e = refl
+no-numbers (x ∷ xs) e = absurd (omega arith)
+
 module _ {asked : Asked} (rows : Book → Rows) (book : Book) (out : List ℕ) (ok : Askable asked book) {count width : ℕ} (size : Sized (rows book) count width) where
   pub no-room : length out < count * width → Answers asked rows book out (Refused 10 0) out
   no-room h = too-short asked rows book out ok (omega (arith, size .long))
 
   pub in-front : count * width ≤ length out → (front : List ℕ) → front ≡ numbers (rows book) → Answers asked rows book out (Accepted count) (front ++ drop (count * width) out)
   in-front h front e = filled asked rows book out ok count (sym (size .many)) (count * width) (sym (size .long)) h front e
+
+  -- no rows: nothing is put
+  pub nothing-there : count ≡ 0 → Answers asked rows book out (Accepted 0) out
+  nothing-there z =
+      let none : length (numbers (rows book)) ≡ 0 = omega (arith, size .long, ap (λ (n : ℕ). n * width) z) in
+      filled asked rows book out ok 0 (sym (size .many ∙ z)) 0 (sym none) (omega arith) [] (sym (no-numbers (numbers (rows book)) none))

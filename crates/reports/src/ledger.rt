@@ -26,6 +26,9 @@ pub fn period_points_of(book: &[u8], opened: Opened, out: &mut [u64]) -> Reply
     if out.len() < n {
         return Reply::Refused(10, 0);
     }
+    if count == 0 {
+        return Reply::Accepted(0);
+    }
     fill_periods(book, date, plan, ledger, &mut out[..n]);
     Reply::Accepted(count as u64)
 }

@@ -1,5 +1,5 @@
 -- From columns of the last lines and of the schedule to the rows of the variances.
-use Prim.Native.Nat.{ℕ, suc, _*_, _<_}
+use Prim.Native.Nat.{ℕ, suc, _+_, _*_, _<_}
 use native.Mathlib.Omega.{arith}
 use native.Mathlib.Decide.{decLt}
 use mathlib.Core.Path.{_≡_, refl, sym, ap, _∙_, subst}
@@ -8,7 +8,7 @@ use mathlib.Core.List.{List, [], _∷_, map, map-map}
 use mathlib.Core.Option.{Option, none, some, Option·getD, orElse}
 use lib.Dec.{eqb, ltb}
 use lib.IntN.{ℤ, pos, _+ℤ_, _-ℤ_}
-use lib.ListN.{length, getD, List·getD-eq-default}
+use lib.ListN.{length, getD, getD-replicate, List·getD-eq-default}
 use mir.Syntax.{w64}
 use borrow.Author.Tests.{lt-ltb, ne-eqb}
 use Rattle.integer.specs.Clamp.{clamp}
@@ -20,9 +20,11 @@ use Rattle.format.specs.Verdict.{content}
 use Rattle.format.proofs.Theorems.{content-in-range}
 use Rattle.fields.specs.declared.OptionalNumber.{OptionalNumber}
 use Rattle.fields.specs.Optional.{numberOption}
+use Rattle.book.specs.declared.Section.{Section}
 use Rattle.book.specs.declared.layout.Plan.{Plan}
 use Rattle.book.specs.Sections.{alikeIn}
 use Rattle.book.specs.Plan.{IsPlanOf}
+use Rattle.book.proofs.Index.{alike-length}
 use Rattle.book.proofs.Plan.{activities-count, activities-in-range, lines-in-range}
 use Rattle.money.specs.Words.{bits}
 use Rattle.model.specs.Lists.{span}
@@ -38,12 +40,12 @@ use Rattle.activities.specs.Columns.{calendarNumber, firstDate, lastDate}
 use Rattle.activities.proofs.Plans.{planned, column-at}
 use Rattle.tree.specs.Figures.{figureOf}
 use Rattle.rows.specs.Rows.{numbers, placed}
-use Rattle.rows.proofs.Columns.{placedAll, rows-made}
+use Rattle.rows.proofs.Columns.{columns-all, placedAll, rows-made}
 use Rattle.earned.specs.Listed as listed
 use Rattle.earned.proofs.Entries.{entries-are, entries-length, entry-at}
 use Rattle.earned.proofs.Baselines.{plan-count}
 use Rattle.variances.specs.Rows.{varianceRow}
-use Rattle.variances.specs.Columns.{lastly, minutesOf, markOf, Nothing, DatesInRange, AllBetween, durationIn, costIn, figureIn, columnOf}
+use Rattle.variances.specs.Columns.{lastly, minutesOf, markOf, Zeros, Nothing, DatesInRange, AllBetween, durationIn, costIn, figureIn, columnOf}
 
 -- what holds of every line holds of an activity's last
 last-among : (P : BaselineLine → Type 0) (ls : List BaselineLine) → Every P ls → (i : ℕ) → Given P (lastAmong ls i)
@@ -55,6 +57,12 @@ last-among P (l ∷ ls) h i = go (lastAmong ls i) (eqb (l .activity) i) (last-am
     go (some x) b g = g
     go none true g = h 0 l (omega arith)
     go none false g = tt
+
+-- without lines there is no last
+no-line : (ls : List BaselineLine) → length ls ≡ 0 → (i : ℕ) → lastAmong ls i ≡ none
+unfolding lastAmong
+no-line [] e i = refl
+no-line (l ∷ ls) e i = absurd (omega arith)
 
 module _ {s : List ℕ} {date : OptionalNumber} {plan : Plan} (p : IsPlanOf s date plan) where
   abbrev b : Book
@@ -268,3 +276,18 @@ module _ {s : List ℕ} {date : OptionalNumber} {plan : Plan} (p : IsPlanOf s da
       row : (o : Option Variance) → bits (figureIn (λ v. pos 1) o) ∷ bits (figureIn (λ v. v .start) o) ∷ bits (figureIn (λ v. v .finish) o) ∷ bits (figureIn (λ v. v .duration) o) ∷ bits (figureIn (λ v. v .cost) o) ∷ [] ≡ varianceRow o
       row none = refl
       row (some v) = refl
+
+  -- without a line they are zeros
+  pub rows-blank : {list : Section} → listed.IsLines s list n → list .count ≡ 0 → (out : List ℕ) → length out ≡ n * 5 → Zeros out → out ≡ numbers (map varianceRow (variances b))
+  unfolding variances varianceOf varianceRow lastLine
+  rows-blank {list} lines none-listed out long zeros =
+      columns-all 5 (λ i. varianceRow (varianceOf b i)) (λ i. wide (varianceOf b i)) (length (parents b)) out (omega arith) (long ∙ ap (λ (m : ℕ). m * 5) (sym (plan-count p)))
+      (λ k h i m. zeros (k + i * 5) ∙ sym (ap (λ (o : Option BaselineLine). getD (varianceRow (varianceBy b i o)) k 0) (no-line (Option·getD (b .baseline) []) empty i) ∙ getD-replicate 5 k 0 0 h))
+      ∙ ap numbers (sym (map-map varianceRow (varianceOf b) (indices (parents b))))
+    where
+      empty : length (Option·getD (b .baseline) []) ≡ 0
+      empty = ap length (lines .listed) ∙ alike-length _ s list ∙ none-listed
+
+      wide : (o : Option Variance) → length (varianceRow o) ≡ 5
+      wide none = refl
+      wide (some v) = refl

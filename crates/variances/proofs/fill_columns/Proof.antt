@@ -1,20 +1,16 @@
 -- `fill_columns` meets its contract: the lines, then the rows.
-use Rattle.earned.proofs.Baselines.{lines-are}
 use borrow.Author.Needs.{needs}
 use Rattle.variances.proofs.fill_columns.Statement.{statement}
 use Rattle.variances.proofs.fill_columns.Tie as tie
 
-lines-of-requires : tie.Need-lines-of-requires
-lines-of-requires c κs = search needs
-
 take-lines-requires : tie.Need-take-lines-requires
 take-lines-requires c κs =
-    let given = c .before .before .before .before .before .before .before .before .before .before .before .before .pre in
-    (lines-are (given .0) (given .1 .0) _ (c .before .before .before .before .before .lines-of .ensures _ _), (given .1 .1 .0, given .1 .1 .1 .0))
+    let given = c .before .before .before .before .before .before .before .before .before .before .before .pre in
+    (given .1 .0, (given .1 .1 .0, given .1 .1 .1 .0))
 
 put-columns-requires : tie.Need-put-columns-requires
 put-columns-requires c κs =
-    let given = c .before .before .before .before .before .before .before .before .before .before .before .before .before .before .before .before .before .before .before .before .before .before .before .before .before .before .before .pre in
+    let given = c .before .before .before .before .before .before .before .before .before .before .before .before .before .before .before .before .before .before .before .before .before .before .before .before .before .before .pre in
     let took = c .before .before .before .before .before .before .before .before .before .before .before .before .before .before .take-lines .ensures in
     (given .0, (took .0, (took .1 .0, (took .1 .1 .0, (took .1 .1 .1 .0, (took .1 .1 .1 .1, given .1 .1 .1 .1))))))
 
@@ -43,7 +39,6 @@ pub fill-columns-spec : {M : Type 1} → statement M
 fill-columns-spec =
     tie.close
     (tie.spec
-    lines-of-requires
     take-lines-requires
     put-columns-requires
     same-length
