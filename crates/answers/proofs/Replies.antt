@@ -1,9 +1,8 @@
 -- The table of answers, line by line.
 use Prim.Native.Nat.{ℕ, _≤_, _<_}
 use mathlib.Core.Path.{_≡_, refl, sym, ap, ap₂, _∙_, subst}
-use mathlib.Core.Bool.{Bool, true, false, not, cond}
+use mathlib.Core.Bool.{Bool, true, false, not}
 use mathlib.Core.List.{List, [], _∷_, _++_}
-use lib.Dec.{leb}
 use lib.ListN.{length, drop}
 use borrow.Author.Tests.{le-leb, lt-leb, lt-ltb, le-ltb}
 use Rattle.format.specs.Book.{Book}
@@ -16,7 +15,7 @@ use Rattle.answers.specs.declared.open.Opening.{Opening}
 use Rattle.answers.specs.declared.open.Opening.the-variants as opening
 use Rattle.answers.specs.Rows.{Rows}
 use Rattle.answers.specs.Opened.{IsOpened, IsOpening}
-use Rattle.answers.specs.Calls.{Asked, asks, all, isActivity, isDate, replyOn, replyAt, leaves, Answers, reply, left}
+use Rattle.answers.specs.Calls.{Asked, asks, all, isActivity, isDate, replyOn, leaves, Answers, reply, left}
 
 -- ---- what is asked
 

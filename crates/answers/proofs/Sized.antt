@@ -1,7 +1,7 @@
 -- Rows of one width: how many numbers they have, and what is answered with them where all that is asked may be asked.
 use Prim.Native.Nat.{ℕ, _*_, _≤_, _<_}
 use mathlib.Core.Path.{_≡_, refl, sym, ap, _∙_}
-use mathlib.Core.List.{List, [], _∷_, _++_, map, flatMap}
+use mathlib.Core.List.{List, [], _∷_, _++_, map, flatMap, append-nil}
 use native.Mathlib.Omega.{arith}
 use lib.ListN.{length, drop, length-map, length-append}
 use Rattle.format.specs.Book.{Book}
@@ -24,6 +24,14 @@ module _ {A : Type 0} (row : A → List ℕ) (width : ℕ) (wide : (x : A) → l
 
   pub sized : (xs : List A) (count : ℕ) → length xs ≡ count → Sized (map row xs) count width
   sized xs count e = record { many = length-map xs row ∙ e; long = numbers-length xs ∙ ap (λ (n : ℕ). n * width) e }
+
+-- one row alone
+pub one-numbers : (row : List ℕ) → numbers (row ∷ []) ≡ row
+unfolding numbers flatMap
+one-numbers row = append-nil row
+
+pub one-sized : (row : List ℕ) (width : ℕ) → length row ≡ width → Sized (row ∷ []) 1 width
+one-sized row width e = record { many = refl; long = omega (arith, ap length (one-numbers row)) }
 
 no-numbers : (xs : List ℕ) → length xs ≡ 0 → xs ≡ []
 no-numbers [] e = refl

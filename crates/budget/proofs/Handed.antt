@@ -3,7 +3,7 @@ use Prim.Native.Nat.{ℕ, _+_, _≤_, _<_}
 use native.Mathlib.Omega.{arith}
 use mathlib.Core.Path.{_≡_, refl, sym, ap, _∙_}
 use mathlib.Core.Bool.{Bool, true, false}
-use mathlib.Core.List.{List, [], _∷_, map, foldl, List·Memᴰ}
+use mathlib.Core.List.{List, map, foldl, List·Memᴰ}
 use mathlib.Core.Option.{none, some}
 use lib.Dec.{eqb}
 use lib.IntN.{ℤ, pos}
@@ -22,17 +22,12 @@ use Rattle.model.proofs.Lists.{map-same, keep-in, span-in}
 use Rattle.tree.specs.Figures.{figureOf, saturatingAdd}
 use Rattle.tree.proofs.Walks.{at-map}
 use Rattle.costs.proofs.Columns.{changed-all}
+use Rattle.costs.proofs.Charged.{saturated-all}
 use Rattle.activities.specs.Columns.{parentNumber}
 use Rattle.budget.specs.Owners.{ownerAt, byOwner, isMarked, markedOf, MarksLines, givenUp}
 use Rattle.budget.proofs.Owners.{small-given, same-place, activity-at, owner-entry, from-none}
 use Rattle.budget.proofs.Taken.{kept-alike}
 use Rattle.budget.proofs.Named.{marked-owners, onward, onward-first, onward-taken, onward-passed, onward-end}
-
--- a sum, one addition after the other
-added-up : {A : Type 0} (f : A → ℤ) (z : ℤ) (xs : List A) → foldl (λ (s : ℤ) (x : A). saturatingAdd s (f x)) z xs ≡ saturated w64 z (map f xs)
-unfolding saturated
-added-up f z [] = refl
-added-up f z (x ∷ xs) = added-up f (saturatingAdd z (f x)) xs
 
 abbrev parentIn : Activity → Owner
 parentIn a = a .parent
@@ -78,7 +73,7 @@ module _ (book : Book) (n : ℕ) (l : length (book .activities) ≤ 500) (r : Ev
       ap (foldl add (pos 0))
       (kept-alike (λ (j : ℕ). eqb (place j) k) under (lineOwners book)
       (λ i q. ap (λ (j : ℕ). eqb j k) (number-at i (in-lines i q)) ∙ same-place (parentOf (parents book) i) (parent-small i (in-lines i q)) k m))
-      ∙ added-up (figureOf current) (pos 0) (keep under (lineOwners book))
+      ∙ saturated-all (figureOf current) (pos 0) (keep under (lineOwners book))
       ∙ ap (saturated w64 (pos 0))
       (map-same (figureOf current) (λ (i : ℕ). currentOf book (some i)) (keep under (lineOwners book))
       (λ i q.

@@ -1,4 +1,5 @@
 pub mod Reading
+pub mod Naming
 pub mod Owners
 pub mod Taken
 pub mod Named

@@ -1,15 +1,14 @@
 -- The budgets and the changes, taken into columns by owner.
-use Prim.Native.Nat.{ℕ, suc, _≤_}
+use Prim.Native.Nat.{ℕ, suc, _+_, _≤_}
 use native.Mathlib.Omega.{arith}
 use mathlib.Core.Path.{_≡_, refl, sym, ap, ap₂, _∙_}
-use mathlib.Core.Bool.{Bool, true, false, cond}
+use mathlib.Core.Bool.{Bool, true, false}
 use mathlib.Core.List.{List, [], _∷_, map, foldl, List·Memᴰ, List·Memᴰ·head, List·Memᴰ·tail}
 use mathlib.Core.Option.{none}
 use lib.Dec.{eqb}
-use lib.IntN.{ℤ, pos, _+ℤ_}
-use lib.ListN.{length, getD, replicate, length-map}
+use lib.IntN.{ℤ, pos}
+use lib.ListN.{length, getD, drop, replicate, length-map}
 use mir.Syntax.{w64}
-use Rattle.integer.specs.Clamp.{clamp}
 use Rattle.integer.specs.Folds.{saturated}
 use Rattle.format.specs.declared.ChangeStatus.{ChangeStatus}
 use Rattle.format.specs.declared.ChangeStatus.the-variants.{Pending, Approved}
@@ -23,6 +22,7 @@ use Rattle.tree.proofs.Walks.{at-map}
 use Rattle.costs.specs.Columns.{eachFigure, changedAt}
 use Rattle.costs.proofs.Reading.{every-in}
 use Rattle.costs.proofs.Columns.{changed-all}
+use Rattle.costs.proofs.Charged.{saturated-kept}
 use Rattle.budget.specs.Owners.{ownerAt, byOwner, budgetPlace, changePlace, addedChange}
 use Rattle.budget.proofs.Owners.{small-given, owner-is, same-place, from-none, added-owner}
 
@@ -78,23 +78,32 @@ module _ (f : Budget → ℤ) where
       (λ b q. same-place (b .activity) (small-given n (b .activity) l (every-in (BudgetInRange n) bs r b q .activity)) k m))
       ∙ only (noBudget (ownerAt k)) (keep (ownedBy (ownerAt k)) bs) (alone (ownerAt k) bs once) (z (ownerAt k)))
 
+-- ---- the budget of an owner, looked for
+
+-- none of the first i is its budget
+pub record Seeking (o : Owner) (bs : List Budget) (i : ℕ) : Type 0 where
+  pub rest : keep (ownedBy o) (drop i bs) ≡ keep (ownedBy o) bs
+
+pub seeking-none : (o : Owner) (bs : List Budget) → Seeking o bs 0
+seeking-none o bs = record { rest = refl }
+
+module _ {o : Owner} {bs : List Budget} {i : ℕ} (w : Seeking o bs i) where
+  module _ {b : Budget} (e : drop i bs ≡ b ∷ drop (i + 1) bs) where
+    ahead : {t : Bool} → ownedBy o b ≡ t → keep (ownedBy o) bs ≡ consIf t b (keep (ownedBy o) (drop (i + 1) bs))
+    unfolding keep
+    ahead h = sym (w .rest) ∙ ap (keep (ownedBy o)) e ∙ ap (λ (t : Bool). consIf t b (keep (ownedBy o) (drop (i + 1) bs))) h
+
+    pub seeking-more : ownedBy o b ≡ false → Seeking o bs (i + 1)
+    seeking-more h = record { rest = sym (ahead h) }
+
+    pub seeking-found : ownedBy o b ≡ true → getD (keep (ownedBy o) bs) 0 (noBudget o) ≡ b
+    seeking-found h = ap (λ (xs : List Budget). getD xs 0 (noBudget o)) (ahead h)
+
+  pub seeking-end : drop i bs ≡ [] → getD (keep (ownedBy o) bs) 0 (noBudget o) ≡ noBudget o
+  unfolding keep
+  seeking-end e = ap (λ (xs : List Budget). getD xs 0 (noBudget o)) (sym (w .rest) ∙ ap (keep (ownedBy o)) e)
+
 -- ---- the changes
-
--- those that pass, added up
-sum-kept :
-    {A : Type 0} (t : A → Bool) (f : A → ℤ) (z : ℤ) (xs : List A) →
-    foldl (λ (s : ℤ) (x : A). cond (t x) (clamp w64 (s +ℤ f x)) s) z xs ≡ saturated w64 z (map f (keep t xs))
-unfolding keep saturated
-sum-kept t f z [] = refl
-sum-kept {A} t f z (x ∷ xs) = go (t x) (λ u. sum-kept t f u xs)
-  where
-    step : ℤ → A → ℤ
-    step s y = cond (t y) (clamp w64 (s +ℤ f y)) s
-
-    go : (b : Bool) → ((u : ℤ) → foldl step u xs ≡ saturated w64 u (map f (keep t xs)))
-        → foldl step (cond b (clamp w64 (z +ℤ f x)) z) xs ≡ saturated w64 z (map f (consIf b x (keep t xs)))
-    go true ih = ih (clamp w64 (z +ℤ f x))
-    go false ih = ih z
 
 pub taken-changes :
     (status : ChangeStatus) (book : Book) (n : ℕ) → n ≤ 500 → Every (BudgetChangeInRange n) (book .log) →
@@ -111,7 +120,7 @@ taken-changes status book n l r =
     ap (foldl (addedChange status) (pos 0))
     (kept-alike (λ (c : BudgetChange). eqb (changePlace c) k) its log
     (λ c q. same-place (c .activity) (small-given n (c .activity) l (every-in (BudgetChangeInRange n) log r c q .activity)) k m))
-    ∙ sum-kept counts amount (pos 0) (keep its log)
+    ∙ saturated-kept counts amount (pos 0) (keep its log)
     ∙ ap (λ (cs : List BudgetChange). saturated w64 (pos 0) (map amount cs)) (keep-keep its counts log))
 
 -- ---- what they come to

@@ -2,23 +2,36 @@
 use Prim.Native.Nat.{ℕ, _≤_}
 use mathlib.Core.Path.{_≡_}
 use mathlib.Core.List.{List, map}
-use Rattle.format.specs.Book.{Budget}
+use mathlib.Core.Option.{Option}
+use Rattle.format.specs.declared.Pos.{Pos}
+use Rattle.format.specs.Book as book
 use Rattle.format.specs.InRange.{Every, NoTwoAlike, BudgetInRange, BudgetChangeInRange}
+use Rattle.format.specs.Field.{index}
+use Rattle.format.specs.Codec.{O}
 use Rattle.format.specs.Format as layout
 use Rattle.format.specs.Verdict.{content}
 use Rattle.book.specs.declared.Section.{Section}
-use Rattle.book.specs.Sections.{alikeIn}
+use Rattle.book.specs.declared.budgets.Budget.{Budget}
+use Rattle.book.specs.Sections.{alikeIn, budgetOf, markOf}
 use Rattle.book.specs.Plan.{budgetsIn}
+use Rattle.tree.specs.Figures.{isUnmarked}
 
 -- the budgets of an accepted book with so many activities
 pub record IsBudgets (s : List ℕ) (list : Section) (activities : ℕ) : Type 0 where
   pub most : activities ≤ 500
   pub listed : content s .budgets ≡ budgetsIn s activities list
   pub ranges : Every (BudgetInRange activities) (content s .budgets)
-  pub named : NoTwoAlike (map (λ (b : Budget). b .activity) (content s .budgets))
+  pub named : NoTwoAlike (map (λ (b : book.Budget). b .activity) (content s .budgets))
 
 -- the log of one
 pub record IsLog (s : List ℕ) (list : Section) (activities : ℕ) : Type 0 where
   pub most : activities ≤ 500
   pub listed : content s .log ≡ alikeIn (layout.budgetChange activities) s list
   pub ranges : Every (BudgetChangeInRange activities) (content s .log)
+
+-- the budget that is read at a place, where the marks say whether what it names is new
+abbrev pub IsBudgetAt : List ℕ → ℕ → List ℕ → Pos → Budget → Type 0
+IsBudgetAt s activities marks at b =
+    (before : List (Option ℕ)) →
+    isUnmarked marks (markOf (O (index activities) .read s at .0)) ≡ layout.isNew before (O (index activities) .read s at .0) →
+    (budgetOf s b, b .next) ≡ layout.budget activities before .read s at

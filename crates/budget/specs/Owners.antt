@@ -14,7 +14,7 @@ use Rattle.format.specs.Book.{Budget, BudgetChange, Book}
 use Rattle.book.specs.Sections.{markOf}
 use Rattle.model.specs.Lists.{span, keep}
 use Rattle.model.specs.Tree.{parents}
-use Rattle.model.specs.Budgets.{Owner, sameStatus, isNamed, hasLine}
+use Rattle.model.specs.Budgets.{Owner, sameStatus, isChange, isNamed, hasLine}
 use Rattle.tree.specs.Figures.{figureOf, saturatingAdd, isUnmarked}
 
 -- whose entry number k is
@@ -42,6 +42,10 @@ changePlace c = markOf (c .activity)
 -- the sum with a change added, where it has this status
 abbrev pub addedChange : ChangeStatus → ℤ → BudgetChange → ℤ
 addedChange status sum c = cond (sameStatus (c .status) status) (clamp w64 (sum +ℤ c .amount)) sum
+
+-- the same, where it is of this owner
+abbrev pub addedTo : Owner → ChangeStatus → ℤ → BudgetChange → ℤ
+addedTo owner status sum c = cond (isChange owner status c) (clamp w64 (sum +ℤ c .amount)) sum
 
 -- ---- marks: 0 for none
 

@@ -5,6 +5,7 @@ use book::budgets::Budget;
 use book::budgets::mark_of;
 use book::budgets::read_budget;
 use fields::kinds::optional_index;
+use format::Pos;
 ghost use mathlib.Core.Path.{_≡_};
 ghost use mathlib.Core.List.{foldl};
 ghost use lib.IntN.{pos};
@@ -16,7 +17,18 @@ ghost use Rattle.fields.specs.Optional.{numberOption};
 ghost use Rattle.book.specs.Sections.{markOf, budgetOf};
 ghost use Rattle.model.specs.Budgets.{budgetFor};
 ghost use Rattle.budget.specs.Owners.{byOwner, budgetPlace, markedBy};
-ghost use Rattle.budget.specs.Arguments.{IsBudgets};
+ghost use Rattle.budget.specs.Arguments.{IsBudgets, IsBudgetAt};
+
+// The budget that begins here. What a budget before names is marked.
+pub fn next_budget(book: &[u8], at: Pos, activities: u64, marks: &[u64]) -> Budget
+    requires { ⌜ length (now marks) ≡ 501 ⌝ }
+    ensures { λ r. ⌜ IsBudgetAt (now (book .entry)) activities (now (marks .entry)) at r ⌝ }
+{
+    let named = optional_index(book, at, activities);
+    let name = named.value;
+    let k = mark_of(name);
+    read_budget(book, at, activities, marks[k] == 0)
+}
 
 // One budget, at its owner's place.
 fn take_budget(
@@ -41,7 +53,7 @@ fn take_budget(
     marks[k] = 1;
 }
 
-// All of them, in a book with so many activities. What is marked is what a budget before names.
+// All of them, in a book with so many activities.
 pub fn take_budgets(
     book: &[u8],
     list: Section,
@@ -60,11 +72,27 @@ pub fn take_budgets(
     let mut next = list.first;
     let mut i: u64 = 0;
     while i < count {
-        let named = optional_index(book, next, activities);
-        let name = named.value;
-        let k = mark_of(name);
-        let b = read_budget(book, next, activities, marks[k] == 0);
+        let b = next_budget(book, next, activities, marks);
         take_budget(book, b, original, planned, marks);
+        next = b.next;
+        i += 1;
+    }
+}
+
+// Who has a budget, and nothing else of them.
+pub fn mark_budgets(book: &[u8], list: Section, activities: u64, marks: &mut [u64])
+    requires { ⌜ IsBudgets (now book) list activities ⌝ }
+    requires { ⌜ now marks ≡ replicate 501 0 ⌝ }
+    ensures { λ r. ⌜ now (marks .exit) ≡ foldl (markedBy budgetPlace) (now (marks .entry)) (content (now (book .entry)) .budgets) ⌝ }
+{
+    let count = list.count;
+    let mut next = list.first;
+    let mut i: u64 = 0;
+    while i < count {
+        let b = next_budget(book, next, activities, marks);
+        let owner = b.activity;
+        let k = mark_of(owner);
+        marks[k] = 1;
         next = b.next;
         i += 1;
     }

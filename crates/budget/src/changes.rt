@@ -31,7 +31,7 @@ fn status_number(status: ChangeStatus) -> u64
     }
 }
 
-fn same_status(a: ChangeStatus, b: ChangeStatus) -> bool
+pub fn same_status(a: ChangeStatus, b: ChangeStatus) -> bool
     ensures { λ r. ⌜ r ≡ sameStatus a b ⌝ }
 {
     status_number(a) == status_number(b)
@@ -94,6 +94,25 @@ pub fn take_changes(
     while i < count {
         let change = read_budget_change(book, next, activities);
         take_change(change, approved, pending, marks);
+        next = change.next;
+        i += 1;
+    }
+}
+
+// Who has a line in the log, and nothing else of it.
+pub fn mark_changes(book: &[u8], list: Section, activities: u64, marks: &mut [u64])
+    requires { ⌜ IsLog (now book) list activities ⌝ }
+    requires { ⌜ length (now marks) ≡ 501 ⌝ }
+    ensures { λ r. ⌜ now (marks .exit) ≡ foldl (markedBy changePlace) (now (marks .entry)) (content (now (book .entry)) .log) ⌝ }
+{
+    let count = list.count;
+    let mut next = list.first;
+    let mut i: u64 = 0;
+    while i < count {
+        let change = read_budget_change(book, next, activities);
+        let owner = change.activity;
+        let k = mark_of(owner);
+        marks[k] = 1;
         next = change.next;
         i += 1;
     }

@@ -1,5 +1,7 @@
 // The budgets and the log as columns by owner: original, planned, current, proposed, and who is named.
+use crate::budgets::mark_budgets;
 use crate::budgets::take_budgets;
+use crate::changes::mark_changes;
 use crate::changes::take_changes;
 use book::layout::Ledger;
 use book::layout::Plan;
@@ -61,4 +63,19 @@ pub fn read_ledger(
     take_changes(book, log, count, current, proposed, marks);
     add_to(original, current);
     add_to(current, proposed);
+}
+
+// Who is named, without any column.
+pub fn mark_named(book: &[u8], date: OptionalNumber, plan: Plan, ledger: Ledger, marks: &mut [u64])
+    requires { ⌜ IsPlanOf (now book) date plan ⌝ }
+    requires { ⌜ IsLedgerOf (now book) plan ledger ⌝ }
+    requires { ⌜ now marks ≡ replicate 501 0 ⌝ }
+    ensures { λ r. ⌜ MarksNamed (now (marks .exit)) (content (now (book .entry))) ⌝ }
+{
+    let activities = plan.activities;
+    let count = activities.count;
+    let budgets = ledger.budgets;
+    let log = ledger.log;
+    mark_budgets(book, budgets, count, marks);
+    mark_changes(book, log, count, marks);
 }

@@ -2,10 +2,11 @@
 use crate::amounts::sum_amounts;
 use crate::columns::fill_owners;
 use crate::columns::fill_tree;
-use crate::ledger::read_ledger;
+use crate::ledger::mark_named;
 use crate::lines::put_lines;
 use crate::marks::count_marked;
 use crate::marks::mark_parents;
+use crate::project::project_current;
 use book::layout::Ledger;
 use book::layout::Plan;
 use book::leaves::leaf_marks;
@@ -22,15 +23,16 @@ ghost use Rattle.model.specs.Budgets as definition;
 ghost use Rattle.rows.specs.Rows.{numbers};
 ghost use Rattle.budget.specs.Rows.{budgetRow};
 
-pub mod amounts;
-pub mod budgets;
-pub mod changes;
-pub mod columns;
-pub mod distribution;
-pub mod ledger;
-pub mod lines;
-pub mod marks;
-pub mod schedule;
+mod amounts;
+mod budgets;
+mod changes;
+mod columns;
+mod distribution;
+mod ledger;
+mod lines;
+mod marks;
+mod project;
+mod schedule;
 
 // What the sources give, and what of the project's current budget they do not cover.
 pub struct Funding {
@@ -46,22 +48,8 @@ pub fn count_lines(book: &[u8], date: OptionalNumber, plan: Plan, ledger: Ledger
 {
     let activities = plan.activities;
     let calendars = plan.calendars;
-    let mut original = [0i64; 501];
-    let mut planned = [0i64; 501];
-    let mut current = [0i64; 501];
-    let mut proposed = [0i64; 501];
     let mut marks = [0u64; 501];
-    read_ledger(
-        book,
-        date,
-        plan,
-        ledger,
-        &mut original,
-        &mut planned,
-        &mut current,
-        &mut proposed,
-        &mut marks,
-    );
+    mark_named(book, date, plan, ledger, &mut marks);
     let leaves = leaf_marks(book, activities, calendars.count);
     mark_parents(&leaves, &mut marks);
     count_marked(&marks, activities.count as usize) + 1
@@ -158,7 +146,7 @@ pub fn fill_lines(book: &[u8], date: OptionalNumber, plan: Plan, ledger: Ledger,
     );
 }
 
-// What the sources give, and what they leave.
+// What the sources give, and what of the project's current budget they do not cover.
 pub fn funding_of(book: &[u8], date: OptionalNumber, plan: Plan, ledger: Ledger) -> Funding
     requires { ⌜ IsPlanOf (now book) date plan ⌝ }
     requires { ⌜ IsLedgerOf (now book) plan ledger ⌝ }
@@ -166,24 +154,8 @@ pub fn funding_of(book: &[u8], date: OptionalNumber, plan: Plan, ledger: Ledger)
     ensures left { λ r. ⌜ r .uncovered ≡ definition.notCovered (content (now (book .entry))) ⌝ }
 {
     let funds = ledger.funds;
-    let mut original = [0i64; 501];
-    let mut planned = [0i64; 501];
-    let mut current = [0i64; 501];
-    let mut proposed = [0i64; 501];
-    let mut marks = [0u64; 501];
-    read_ledger(
-        book,
-        date,
-        plan,
-        ledger,
-        &mut original,
-        &mut planned,
-        &mut current,
-        &mut proposed,
-        &mut marks,
-    );
     let funded = sum_amounts(book, funds);
-    let project = current[500];
+    let project = project_current(book, date, plan, ledger);
     Funding {
         funded,
         uncovered: saturating_sub(project, funded),

@@ -1,7 +1,7 @@
 -- The client's third demand over lent memory: what is read there are the definitions' figures, so the sentences hold of it.
 use Prim.Native.Nat.{ℕ, zero, suc, _+_, _*_, _≤_, _<_}
 use mathlib.Core.Path.{_≡_, refl, sym, ap, ap₂, _∙_}
-use mathlib.Core.Bool.{Bool, true, false, cond}
+use mathlib.Core.Bool.{Bool, true, false}
 use mathlib.Core.List.{List, [], _∷_, _++_, map, flatMap, append-assoc, List·Memᴰ}
 use native.Mathlib.Omega.{arith}
 use lib.Dec.{leb}

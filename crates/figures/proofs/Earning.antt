@@ -1,7 +1,7 @@
 -- The rows of earned value: from the columns of the activities' own figures, rolled up, or added up over the leaves.
 use Prim.Native.Nat.{ℕ, _*_, _<_}
 use mathlib.Core.Path.{_≡_, refl, ap, ap₂, sym, _∙_}
-use mathlib.Core.List.{List, [], _∷_, map, map-map, flatMap, foldl}
+use mathlib.Core.List.{List, [], _∷_, map, map-map, flatMap}
 use native.Mathlib.Omega.{arith}
 use lib.IntN.{ℤ, pos}
 use lib.ListN.{length, set}
@@ -15,12 +15,12 @@ use Rattle.book.specs.Plan.{IsPlanOf}
 use Rattle.book.proofs.Plan.{activities-count}
 use Rattle.model.specs.declared.Earned.{Earned}
 use Rattle.model.specs.Lists.{span}
-use Rattle.model.specs.Tree.{parents, indices, leaves, isLeaf, rollUp}
+use Rattle.model.specs.Tree.{parents, indices}
 use Rattle.model.specs.Planned.{budgetOf}
-use Rattle.model.specs.Earned.{noEarned, addEarned, leafEarned, ownEarned, earnedAt, earnedValue, projectEarned, spentIn}
-use Rattle.model.proofs.Lists.{map-kept, map-same, span-in}
+use Rattle.model.specs.Earned.{noEarned, addEarned, ownEarned, earnedAt, earnedValue, projectEarned, spentIn}
+use Rattle.model.proofs.Lists.{map-same, span-in}
 use Rattle.model.proofs.Figures.{FigureOf}
-use Rattle.model.proofs.EarnedValue.{earned-figures, leaf-own, project-earned}
+use Rattle.model.proofs.EarnedValue.{earned-figures}
 use Rattle.tree.specs.Figures.{parentsOf, figureOf, rolledUp, unmarkedSum, MarksLeaves}
 use Rattle.activities.specs.Columns.{calendarNumber}
 use Rattle.activities.proofs.Plans.{planned}
@@ -40,7 +40,7 @@ use Rattle.figures.proofs.Made.{by-index-size, count-is}
 
 -- ---- how many rows and numbers
 
-pub values-by-index : (date : ℕ) (book : Book) → earnedValueRows date book ≡ map (λ (i : ℕ). earnedRow (earnedAt book date i)) (indices (parents book))
+values-by-index : (date : ℕ) (book : Book) → earnedValueRows date book ≡ map (λ (i : ℕ). earnedRow (earnedAt book date i)) (indices (parents book))
 unfolding earnedValueRows earnedValue
 values-by-index date book = map-map earnedRow (earnedAt book date) (indices (parents book))
 

@@ -5,17 +5,8 @@ use mathlib.Core.List.{List, map}
 use lib.IntN.{ℤ}
 use lib.ListN.{length}
 use Rattle.format.specs.Book.{Book}
-use Rattle.money.specs.declared.costs.Cost.{Cost}
-use Rattle.model.specs.declared.Way.{Way}
-use Rattle.model.specs.declared.Way.the-variants.{Planned, Actual, Remaining}
 use Rattle.model.specs.Tree.{parents, indices}
 use Rattle.model.specs.Earned.{ownEarned}
-
--- the figure of a cost that a way counts
-abbrev pub figureBy : Way → Cost → ℤ
-figureBy Planned c = c .budget
-figureBy Actual c = c .actual
-figureBy Remaining c = c .remaining
 
 -- a figure of each activity
 abbrev pub columnOf : (ℕ → ℤ) → Book → List ℤ

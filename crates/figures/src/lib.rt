@@ -1,4 +1,4 @@
-// The rows of the calls by activity: costs, actual costs by kind, earned value.
+// The rows of the calls by activity, and their sums over the leaves: costs, actual costs by kind, earned value.
 pub mod cost;
 pub mod kind;
 pub mod own;

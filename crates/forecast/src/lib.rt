@@ -50,7 +50,7 @@ fn tcpi(e: Earned) -> Index
 }
 
 // The three indices.
-pub fn indices(e: Earned) -> Indices
+fn indices(e: Earned) -> Indices
     ensures { λ r. ⌜ r ≡ definition.indicesOf e ⌝ }
 {
     let c = cpi(e);
@@ -67,7 +67,7 @@ pub fn indices(e: Earned) -> Indices
 }
 
 // The estimate to complete.
-pub fn etc(technique: EtcTechnique, e: Earned) -> i64
+fn etc(technique: EtcTechnique, e: Earned) -> i64
     ensures { λ r. ⌜ r ≡ definition.etc technique e ⌝ }
 {
     match technique {
@@ -76,20 +76,6 @@ pub fn etc(technique: EtcTechnique, e: Earned) -> i64
         EtcTechnique::Cpi => at_rate(to_earn(e), cpi(e)),
         EtcTechnique::CpiSpi => at_rate(to_earn(e), both(cpi(e), spi(e))),
     }
-}
-
-// The estimate at completion.
-pub fn eac(technique: EtcTechnique, e: Earned) -> i64
-    ensures { λ r. ⌜ r ≡ definition.eac technique e ⌝ }
-{
-    saturating_add(e.actual, etc(technique, e))
-}
-
-// The variance at completion.
-pub fn vac(technique: EtcTechnique, e: Earned) -> i64
-    ensures { λ r. ⌜ r ≡ definition.vac technique e ⌝ }
-{
-    saturating_sub(e.budget, eac(technique, e))
 }
 
 // The estimates, from the first number on.

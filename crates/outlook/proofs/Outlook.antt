@@ -1,11 +1,11 @@
 -- One row in lent memory, and the figures of earned value that such a row is made from.
-use Prim.Native.Nat.{ℕ, _≤_, _<_}
+use Prim.Native.Nat.{ℕ, _<_}
 use native.Mathlib.Omega.{arith}
 use mathlib.Core.Path.{_≡_, refl, ap, sym, _∙_}
 use mathlib.Core.Bool.{true}
-use mathlib.Core.List.{List, [], _∷_, _++_, flatMap, append-nil}
+use mathlib.Core.List.{List, [], _∷_}
 use lib.IntN.{ℤ}
-use lib.ListN.{length, drop, set}
+use lib.ListN.{length, set}
 use lib.Seq.{length-sets, set-split}
 use Rattle.floats.specs.Figures.{bitsOf}
 use Rattle.format.specs.declared.EtcTechnique.{EtcTechnique}
@@ -21,40 +21,40 @@ use Rattle.rows.specs.Rows.{numbers}
 use Rattle.rows.proofs.Columns.{column-at}
 use Rattle.forecast.specs.Rows.{forecastRow}
 use Rattle.forecast.proofs.Put.{row-put}
-use Rattle.answers.specs.declared.Reply.the-variants.{Accepted, Refused}
-use Rattle.answers.specs.Rows.{Rows, performanceRows, indicesRows, projectIndicesRows}
-use Rattle.answers.specs.Calls.{Asked, asks, isDate, Answers}
-use Rattle.answers.proofs.Replies.{Askable, in-book, none-asked, one-asked, too-short, filled}
+use Rattle.answers.specs.declared.Reply.the-variants.{Accepted}
+use Rattle.answers.specs.Rows.{performanceRows, indicesRows, projectIndicesRows}
+use Rattle.answers.specs.Calls.{asks, isDate, Answers}
+use Rattle.answers.proofs.Replies.{Askable, in-book, none-asked, one-asked}
+use Rattle.answers.proofs.Sized.{Sized, one-numbers, one-sized, in-front}
 use Rattle.figures.specs.Columns.{columnOf, OwnColumns}
 use Rattle.figures.proofs.Earning.{rolled-value, leaf-value}
 
--- ---- the rows of a call that has one
+-- ---- the row of each call, and its size
 
-pub performance-row : (i : ℕ) (book : Book) → performanceRows i book ≡ (bitsOf (performance book i) ∷ []) ∷ []
-unfolding performanceRows
-performance-row i book = refl
-
-pub indices-row : (i date : ℕ) (book : Book) → indicesRows i date book ≡ forecastRow (book .forecast) (earnedAt book date i) ∷ []
-unfolding indicesRows
-indices-row i date book = refl
-
-pub project-row : (date : ℕ) (book : Book) → projectIndicesRows date book ≡ forecastRow (book .forecast) (projectEarned book date) ∷ []
-unfolding projectIndicesRows
-project-row date book = refl
-
-pub forecast-long : (technique : EtcTechnique) (e : Earned) → length (forecastRow technique e) ≡ 9
+forecast-long : (technique : EtcTechnique) (e : Earned) → length (forecastRow technique e) ≡ 9
 forecast-long technique e = ap length (sym (row-put technique e (0 ∷ 0 ∷ 0 ∷ 0 ∷ 0 ∷ 0 ∷ 0 ∷ 0 ∷ 0 ∷ []) refl)) ∙ simp length-sets
 
-module _ (asked : Asked) (rows : Book → Rows) (book : Book) (out : List ℕ) (ok : Askable asked book) (row : List ℕ) (is : rows book ≡ row ∷ []) where
-  its-numbers : numbers (rows book) ≡ row
-  unfolding numbers flatMap
-  its-numbers = ap numbers is ∙ append-nil row
+pub performance-sized : (i : ℕ) (book : Book) → Sized (performanceRows i book) 1 1
+unfolding performanceRows
+performance-sized i book = one-sized (bitsOf (performance book i) ∷ []) 1 refl
 
-  pub row-short : length out < length row → Answers asked rows book out (Refused 10 0) out
-  row-short h = too-short asked rows book out ok (omega (arith, ap length its-numbers))
+module _ (i date : ℕ) (book : Book) where
+  pub indices-sized : Sized (indicesRows i date book) 1 9
+  unfolding indicesRows
+  indices-sized = one-sized (forecastRow (book .forecast) (earnedAt book date i)) 9 (forecast-long (book .forecast) (earnedAt book date i))
 
-  pub row-filled : (m : ℕ) → m ≡ length row → m ≤ length out → (front : List ℕ) → front ≡ row → Answers asked rows book out (Accepted 1) (front ++ drop m out)
-  row-filled m e h front f = filled asked rows book out ok 1 (sym (ap length is)) m (e ∙ sym (ap length its-numbers)) h front (f ∙ sym its-numbers)
+  pub indices-row : numbers (indicesRows i date book) ≡ forecastRow (book .forecast) (earnedAt book date i)
+  unfolding indicesRows
+  indices-row = one-numbers (forecastRow (book .forecast) (earnedAt book date i))
+
+module _ (date : ℕ) (book : Book) where
+  pub project-sized : Sized (projectIndicesRows date book) 1 9
+  unfolding projectIndicesRows
+  project-sized = one-sized (forecastRow (book .forecast) (projectEarned book date)) 9 (forecast-long (book .forecast) (projectEarned book date))
+
+  pub project-row : numbers (projectIndicesRows date book) ≡ forecastRow (book .forecast) (projectEarned book date)
+  unfolding projectIndicesRows
+  project-row = one-numbers (forecastRow (book .forecast) (projectEarned book date))
 
 -- ---- what may be asked
 
@@ -69,8 +69,10 @@ module _ (book : Book) where
 pub performance-filled :
     (i : ℕ) (book : Book) (out : List ℕ) → Askable (asks (i ∷ []) []) book → 0 < length out → (x : ℕ) → x ≡ bitsOf (performance book i) →
     Answers (asks (i ∷ []) []) (performanceRows i) book out (Accepted 1) (set out 0 x)
+unfolding performanceRows
 performance-filled i book out ok h x e =
-    rw (set-split out 0 x h) (row-filled (asks (i ∷ []) []) (performanceRows i) book out ok _ (performance-row i book) 1 refl h (x ∷ []) (ap (λ (n : ℕ). n ∷ []) e))
+    let row = one-numbers (bitsOf (performance book i) ∷ []) in
+    rw (set-split out 0 x h) (in-front (performanceRows i) book out ok (performance-sized i book) h (x ∷ []) (ap (λ (n : ℕ). n ∷ []) e ∙ sym row))
 
 -- ---- the figures, from the columns of the activities' own
 

@@ -18,9 +18,9 @@ ghost use Rattle.tree.specs.Figures.{MarksLeaves};
 ghost use Rattle.rows.specs.Rows.{numbers};
 ghost use Rattle.periods.specs.Rows.{periodRow};
 
-pub mod columns;
-pub mod listed;
-pub mod points;
+mod columns;
+mod listed;
+mod points;
 
 // The rows, with columns of the periods to work in.
 fn fill_marked(

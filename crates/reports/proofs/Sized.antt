@@ -1,10 +1,9 @@
 -- How many rows each call of the ledger has, and how many numbers.
 use Prim.Native.Nat.{ℕ, _+_, _≤_}
 use mathlib.Core.Path.{_≡_, refl, sym, ap, _∙_}
-use mathlib.Core.List.{List, [], _∷_, _++_, map, flatMap}
+use mathlib.Core.List.{List, [], _∷_, flatMap}
 use mathlib.Core.Option.{Option, none, some, Option·map}
 use native.Mathlib.Omega.{arith}
-use lib.IntN.{ℤ}
 use lib.ListN.{length, set, length-map, length-append}
 use Rattle.format.specs.Book.{Book}
 use Rattle.format.specs.Verdict.{content}
@@ -23,10 +22,10 @@ use Rattle.periods.specs.Rows.{periodRow}
 use Rattle.variances.specs.Rows.{varianceRow}
 use Rattle.budget.specs.Rows.{budgetRow, fundingRow}
 use Rattle.budget.proofs.Accepted.{parents-count, parents-most}
-use Rattle.answers.specs.declared.Reply.the-variants.{Accepted, Refused}
+use Rattle.answers.specs.declared.Reply.the-variants.{Accepted}
 use Rattle.answers.specs.declared.open.Opened.{Opened}
 use Rattle.answers.specs.Opened.{IsOpened}
-use Rattle.answers.specs.Rows.{Rows, periodPointsRows, variancesRows, budgetRows, fundingRows}
+use Rattle.answers.specs.Rows.{periodPointsRows, variancesRows, budgetRows, fundingRows}
 use Rattle.answers.specs.Calls.{asks, Answers}
 use Rattle.answers.proofs.Replies.{nothing-asked}
 use Rattle.answers.proofs.Sized.{Sized, sized, in-front}

@@ -69,7 +69,7 @@ pub fn budget_of(book: &[u8], opened: Opened, out: &mut [u64]) -> Reply
     Reply::Accepted(count as u64)
 }
 
-// One row, where it fits: what the sources give, and what they leave.
+// One row, where it fits: what the sources give, and what of the project's current budget they do not cover.
 pub fn funding_of(book: &[u8], opened: Opened, out: &mut [u64]) -> Reply
     requires { ⌜ IsOpened (now book) opened ⌝ }
     ensures { λ r. ⌜ Answers (asks [] []) fundingRows (content (now (book .entry))) (now (out .entry)) r (now (out .exit)) ⌝ }

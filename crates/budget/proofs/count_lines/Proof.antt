@@ -15,25 +15,11 @@ use borrow.Author.Needs.{needs}
 use Rattle.budget.proofs.count_lines.Statement.{statement}
 use Rattle.budget.proofs.count_lines.Tie as tie
 
-slice-aggregate-read-ledger : tie.Need-slice-aggregate-read-ledger
-slice-aggregate-read-ledger c = search needs
+slice-aggregate-mark-named : tie.Need-slice-aggregate-mark-named
+slice-aggregate-mark-named c = search needs
 
-slice-aggregate-read-ledger-2 : tie.Need-slice-aggregate-read-ledger-2
-slice-aggregate-read-ledger-2 c = search needs
-
-slice-aggregate-read-ledger-3 : tie.Need-slice-aggregate-read-ledger-3
-slice-aggregate-read-ledger-3 c = search needs
-
-slice-aggregate-read-ledger-4 : tie.Need-slice-aggregate-read-ledger-4
-slice-aggregate-read-ledger-4 c = search needs
-
-slice-aggregate-read-ledger-5 : tie.Need-slice-aggregate-read-ledger-5
-slice-aggregate-read-ledger-5 c = search needs
-
-read-ledger-requires : tie.Need-read-ledger-requires
-read-ledger-requires c κs =
-    let s = c .before .before .before .before .before .before .before .before in
-    (s .pre .0, (s .pre .1, ((refl, refl), (refl, refl, refl))))
+mark-named-requires : tie.Need-mark-named-requires
+mark-named-requires c κs = let s = c .before .before .before .before in (s .pre .0, (s .pre .1, refl))
 
 leaf-marks-requires : tie.Need-leaf-marks-requires
 leaf-marks-requires c κs = search needs
@@ -52,33 +38,30 @@ slice-aggregate-count-marked c = search needs
 
 count-marked-requires : tie.Need-count-marked-requires
 count-marked-requires c κs =
-    let s = c .before .before .before .before .before .before .before .before .before .before .before .before .before .before .before .before .before .before .before .before in
+    let s = c .before .before .before .before .before .before .before .before .before .before .before .before in
     omega (arith, c .before .marks4 .given, c .before .before .before .before .before .before .marks2 .given, activities-most (s .pre .0))
 
 add-result : tie.Need-add-result
 add-result c =
-    let s = c .before .before .before .before .before .before .before .before .before .before .before .before .before .before .before .before .before .before .before .before .before in
+    let s = c .before .before .before .before .before .before .before .before .before .before .before .before .before in
     omega (arith, c .count-marked .ensures, marked-most (c .before .before .before .mark-parents .last .1 .0) (s .args .plan .activities .count), activities-most (s .pre .0))
 
 returns : tie.Need-returns
 unfolding budgetLines
 returns c =
-    let s = c .before .before .before .before .before .before .before .before .before .before .before .before .before .before .before .before .before .before .before .before .before in
+    let s = c .before .before .before .before .before .before .before .before .before .before .before .before .before in
     let book = content (s .args .book .now) in
     let leaves = c .before .before .before .before .before .before .leaf-marks in
-    let lined = marks-lines book (leaves .result) (c .before .before .before .before .before .before .before .before .before .before .before .before .read-ledger .last .1 .1 .1 .1 .1 .1 .1 .1 .0) (c .before .before .before .mark-parents .last .1 .0) (parents-most (s .pre .0)) (plan-leaves (s .pre .0) (leaves .result) (leaves .ensures)) (c .before .before .before .before .before .before .before .before .before .before .before .before .read-ledger .ensures .1 .1 .1 .1) (c .before .before .before .mark-parents .ensures) in
+    let named = c .before .before .before .before .before .before .before .before .mark-named in
+    let lined = marks-lines book (leaves .result) (named .last .1 .1 .1 .1 .0) (c .before .before .before .mark-parents .last .1 .0) (parents-most (s .pre .0)) (plan-leaves (s .pre .0) (leaves .result) (leaves .ensures)) (named .ensures) (c .before .before .before .mark-parents .ensures) in
     omega (arith, c .count-marked .ensures, ap length (marked-owners book (c .before .before .before .mark-parents .last .1 .0) (s .args .plan .activities .count) (sym (parents-count (s .pre .0))) lined), length-map (lineOwners book) (λ (i : ℕ). lineFor book (some i) (depthOf book i) (costOf book i .budget)))
 
 pub count-lines-spec : {M : Type 1} → statement M
 count-lines-spec =
     tie.close
     (tie.spec
-    slice-aggregate-read-ledger
-    slice-aggregate-read-ledger-2
-    slice-aggregate-read-ledger-3
-    slice-aggregate-read-ledger-4
-    slice-aggregate-read-ledger-5
-    read-ledger-requires
+    slice-aggregate-mark-named
+    mark-named-requires
     leaf-marks-requires
     slice-aggregate-mark-parents
     slice-aggregate-mark-parents-2

@@ -4,17 +4,16 @@ use Prim.Native.Nat.{_≤_}
 use native.Mathlib.Omega.{arith}
 use mathlib.Core.Path.{ap₂, sym, _∙_}
 use mathlib.Core.Bool.{true, false}
-use mathlib.Core.List.{[], _∷_}
 use lib.ListN.{length}
 use lib.Seq.{length-take-le}
 use Rattle.format.specs.Verdict.{content}
 use Rattle.book.proofs.Plan.{activities-count}
-use Rattle.model.specs.Earned.{earnedAt}
 use Rattle.forecast.specs.Rows.{forecastRow}
 use Rattle.answers.specs.Rows.{indicesRows}
-use Rattle.answers.specs.Calls.{asks, isDate}
+use Rattle.answers.specs.Calls.{isDate}
 use Rattle.answers.proofs.Replies.{opposite, one-other, in-book, not-in-book, unknown, misdated}
-use Rattle.outlook.proofs.Outlook.{indices-row, forecast-long, both-asked, row-short, row-filled}
+use Rattle.answers.proofs.Sized.{no-room, in-front}
+use Rattle.outlook.proofs.Outlook.{indices-sized, indices-row, both-asked}
 use Rattle.outlook.proofs.indices_of.Statement.{statement}
 use Rattle.outlook.proofs.indices_of.Tie as tie
 
@@ -40,8 +39,7 @@ returns-3 c =
     let book = content (s .args .book .now) in
     let dated = sym (c .before .before .is-date .ensures) ∙ opposite _ false (c .before .if2 .left) in
     let ok = both-asked book i _ at (activities-count (s .pre .plan)) (omega (arith, c .before .before .before .if1 .left)) dated in
-    row-short (asks (i ∷ []) (at ∷ [])) (indicesRows i at) book (s .args .out .now) ok _ (indices-row i at book)
-    (omega (arith, forecast-long (book .forecast) (earnedAt book at i), c .if3 .taken))
+    no-room (indicesRows i at) book (s .args .out .now) ok (indices-sized i at book) (omega (arith, c .if3 .taken))
 
 activity-earned-requires : tie.Need-activity-earned-requires
 activity-earned-requires c κs = search needs
@@ -69,9 +67,8 @@ returns-4 c =
     let book = content (s .args .book .now) in
     let dated = sym (c .before .before .before .before .before .before .before .is-date .ensures) ∙ opposite _ false (c .before .before .before .before .before .before .if2 .left) in
     let ok = both-asked book i _ at (activities-count (s .pre .plan)) (omega (arith, c .before .before .before .before .before .before .before .before .if1 .left)) dated in
-    row-filled (asks (i ∷ []) (at ∷ [])) (indicesRows i at) book (s .args .out .now) ok _ (indices-row i at book) 9
-    (sym (forecast-long (book .forecast) (earnedAt book at i))) (omega (arith, c .before .before .before .before .before .if3 .left)) _
-    (c .before .before .put-forecast .ensures ∙ ap₂ forecastRow (sym (s .pre .forecast)) (c .before .before .before .before .activity-earned .ensures))
+    in-front (indicesRows i at) book (s .args .out .now) ok (indices-sized i at book) (omega (arith, c .before .before .before .before .before .if3 .left)) _
+    (c .before .before .put-forecast .ensures ∙ ap₂ forecastRow (sym (s .pre .forecast)) (c .before .before .before .before .activity-earned .ensures) ∙ sym (indices-row i at book))
 
 pub indices-of-spec : {M : Type 1} → statement M
 indices-of-spec =

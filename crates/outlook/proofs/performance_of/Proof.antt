@@ -2,14 +2,13 @@
 use borrow.Author.Needs.{needs}
 use native.Mathlib.Omega.{arith}
 use mathlib.Core.Path.{ap, _∙_}
-use mathlib.Core.List.{[], _∷_}
 use Rattle.floats.specs.Figures.{bitsOf}
 use Rattle.format.specs.Verdict.{content}
 use Rattle.book.proofs.Plan.{activities-count}
 use Rattle.answers.specs.Rows.{performanceRows}
-use Rattle.answers.specs.Calls.{asks}
 use Rattle.answers.proofs.Replies.{not-in-book, unknown}
-use Rattle.outlook.proofs.Outlook.{performance-row, activity-asked, row-short, performance-filled}
+use Rattle.answers.proofs.Sized.{no-room}
+use Rattle.outlook.proofs.Outlook.{performance-sized, activity-asked, performance-filled}
 use Rattle.outlook.proofs.performance_of.Statement.{statement}
 use Rattle.outlook.proofs.performance_of.Tie as tie
 
@@ -19,7 +18,7 @@ returns c =
     let i = s .args .activity in
     let book = content (s .args .book .now) in
     let ok = activity-asked book i _ (activities-count (s .pre .plan)) (omega (arith, c .before .if1 .taken)) in
-    row-short (asks (i ∷ []) []) (performanceRows i) book (s .args .out .now) ok _ (performance-row i book) (omega (arith, c .if2 .taken))
+    no-room (performanceRows i) book (s .args .out .now) ok (performance-sized i book) (omega (arith, c .if2 .taken))
 
 performance-requires : tie.Need-performance-requires
 performance-requires c κs = search needs

@@ -3,17 +3,14 @@ use borrow.Author.Needs.{needs}
 use Prim.Native.Nat.{_≤_}
 use native.Mathlib.Omega.{arith}
 use mathlib.Core.Path.{ap₂, sym, _∙_}
-use mathlib.Core.Bool.{true, false}
-use mathlib.Core.List.{[], _∷_}
 use lib.ListN.{length}
 use lib.Seq.{length-take-le}
 use Rattle.format.specs.Verdict.{content}
-use Rattle.model.specs.Earned.{projectEarned}
 use Rattle.forecast.specs.Rows.{forecastRow}
 use Rattle.answers.specs.Rows.{projectIndicesRows}
-use Rattle.answers.specs.Calls.{asks, isActivity, isDate}
-use Rattle.answers.proofs.Replies.{opposite, none-asked, one-other, misdated, date-asked}
-use Rattle.outlook.proofs.Outlook.{project-row, forecast-long, row-short, row-filled}
+use Rattle.answers.proofs.Replies.{date-tested, date-refused}
+use Rattle.answers.proofs.Sized.{no-room, in-front}
+use Rattle.outlook.proofs.Outlook.{project-sized, project-row}
 use Rattle.outlook.proofs.project_indices_of.Statement.{statement}
 use Rattle.outlook.proofs.project_indices_of.Tie as tie
 
@@ -22,18 +19,15 @@ is-date-requires c κs = search needs
 
 returns : tie.Need-returns
 returns c =
-    let s = c .before .before .before .before in
-    misdated _ _ _ _ (none-asked (isActivity (content (s .args .book .now))))
-    (one-other isDate (s .args .at) (sym (c .before .is-date .ensures) ∙ opposite _ true (c .if1 .taken)))
+    date-refused _ (c .before .before .before .before .args .at) (c .before .is-date .ensures) _ _ (c .if1 .taken)
 
 returns-2 : tie.Need-returns-2
 returns-2 c =
     let s = c .before .before .before .before .before in
     let at = s .args .at in
     let book = content (s .args .book .now) in
-    let ok = date-asked book at (sym (c .before .before .is-date .ensures) ∙ opposite _ false (c .before .if1 .left)) in
-    row-short (asks [] (at ∷ [])) (projectIndicesRows at) book (s .args .out .now) ok _ (project-row at book)
-    (omega (arith, forecast-long (book .forecast) (projectEarned book at), c .if2 .taken))
+    let ok = date-tested book at (c .before .before .is-date .ensures) (c .before .if1 .left) in
+    no-room (projectIndicesRows at) book (s .args .out .now) ok (project-sized at book) (omega (arith, c .if2 .taken))
 
 project-earned-requires : tie.Need-project-earned-requires
 project-earned-requires c κs = search needs
@@ -58,10 +52,9 @@ returns-3 c =
     let s = c .before .before .before .before .before .before .before .before .before .before in
     let at = s .args .at in
     let book = content (s .args .book .now) in
-    let ok = date-asked book at (sym (c .before .before .before .before .before .before .before .is-date .ensures) ∙ opposite _ false (c .before .before .before .before .before .before .if1 .left)) in
-    row-filled (asks [] (at ∷ [])) (projectIndicesRows at) book (s .args .out .now) ok _ (project-row at book) 9
-    (sym (forecast-long (book .forecast) (projectEarned book at))) (omega (arith, c .before .before .before .before .before .if2 .left)) _
-    (c .before .before .put-forecast .ensures ∙ ap₂ forecastRow (sym (s .pre .forecast)) (c .before .before .before .before .project-earned .ensures))
+    let ok = date-tested book at (c .before .before .before .before .before .before .before .is-date .ensures) (c .before .before .before .before .before .before .if1 .left) in
+    in-front (projectIndicesRows at) book (s .args .out .now) ok (project-sized at book) (omega (arith, c .before .before .before .before .before .if2 .left)) _
+    (c .before .before .put-forecast .ensures ∙ ap₂ forecastRow (sym (s .pre .forecast)) (c .before .before .before .before .project-earned .ensures) ∙ sym (project-row at book))
 
 pub project-indices-of-spec : {M : Type 1} → statement M
 project-indices-of-spec =

@@ -5,20 +5,16 @@ use Rattle.answers.specs.Calls.{replyNumber, replyPlace}
 use Rattle.surukeva.proofs.give.Statement.{statement}
 use Rattle.surukeva.proofs.give.Tie as tie
 
--- src/lib.rt:34:25
 enum-known-answer : tie.Need-enum-known-answer
 enum-known-answer c = search needs
 
--- src/lib.rt:38:24
 enum-known-answer-2 : tie.Need-enum-known-answer-2
 enum-known-answer-2 c = search needs
 
--- src/lib.rt:30:1
 returns : tie.Need-returns
 unfolding replyNumber replyPlace
 returns c = rw (c .before .answer .given .1) (refl, refl)
 
--- src/lib.rt:30:1
 returns-2 : tie.Need-returns-2
 unfolding replyNumber replyPlace
 returns-2 c = rw (c .before .answer2 .given .1) (refl, refl)

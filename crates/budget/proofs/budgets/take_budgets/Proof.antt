@@ -1,32 +1,23 @@
--- `take_budgets` meets its contract: one budget a turn; what is marked is what a budget before names.
-use Prim.Native.Nat.{ℕ, _-_, _<_}
+-- `take_budgets` meets its contract: one budget a turn.
+use Prim.Native.Nat.{_-_}
 use native.Mathlib.Omega.{arith}
-use mathlib.Core.Path.{_≡_, refl, sym, ap, subst, _∙_}
-use mathlib.Core.List.{List, [], _∷_, foldl}
-use mathlib.Core.Option.{Option}
-use lib.Dec.{eqb}
+use mathlib.Core.Path.{_≡_, refl, ap, _∙_}
+use mathlib.Core.List.{List, foldl}
 use lib.IntN.{ℤ, pos}
-use lib.ListN.{length, getD, replicate, length-replicate}
+use lib.ListN.{length, replicate, length-replicate}
 use mir.Syntax.{w64}
 use Rattle.integer.specs.Folds.{saturated}
 use Rattle.format.specs.Book.{Budget}
-use Rattle.format.specs.Field.{index}
-use Rattle.format.specs.Codec.{O}
-use Rattle.format.specs.Format.{isNew, budget}
 use Rattle.format.specs.Verdict.{content}
-use Rattle.fields.specs.Optional.{numberOption}
 use Rattle.book.specs.Sections.{budgetOf}
-use Rattle.book.proofs.Marks.{Small, Marked, none-marked, one-marked, place-below, index-small, budget-small}
 use Rattle.costs.specs.Columns.{changedAt}
 use Rattle.budget.specs.Owners.{budgetPlace, markedBy}
-use Rattle.budget.proofs.Reading.{Reading, reading-none, reading-more, reading-next, reading-end, Folded, folded-none, folded-more, folded-end}
+use Rattle.budget.proofs.Reading.{Folded, folded-none, folded-more, folded-end}
+use Rattle.budget.proofs.Naming.{Naming, naming-none, naming-long, naming-kept, naming-next, naming-more, naming-end}
 use Rattle.budget.proofs.Taken.{taken-budgets}
 use borrow.Author.Needs.{needs}
 use Rattle.budget.proofs.budgets.take_budgets.Statement.{statement}
 use Rattle.budget.proofs.budgets.take_budgets.Tie as tie
-
-abbrev naming : List (Option ℕ) → Budget → List (Option ℕ)
-naming before b = b .activity ∷ before
 
 abbrev first : List ℤ → Budget → List ℤ
 first = changedAt budgetPlace (λ (z : ℤ) (b : Budget). b .original)
@@ -37,7 +28,7 @@ plan = changedAt budgetPlace (λ (z : ℤ) (b : Budget). saturated w64 (pos 0) (
 abbrev Inv-loop : tie.InvT-loop
 Inv-loop book activities original₀ planned₀ marks₀ count next₀ i₀ original planned marks next i =
     ((length original ≡ 501) × (length planned ≡ 501))
-    × ((before : List (Option ℕ)) × (Reading (budget activities) naming book (content book .budgets) count i before next × Marked marks before))
+    × Naming book activities count i marks next
     × Folded first original₀ (content book .budgets) i original
     × Folded plan planned₀ (content book .budgets) i planned
     × Folded (markedBy budgetPlace) marks₀ (content book .budgets) i marks
@@ -50,37 +41,22 @@ loop-holds c =
     let s = c .before .before in
     let long : length (replicate 501 (pos 0)) ≡ 501 = length-replicate 501 (pos 0) in (
       (ap length (s .pre .1 .0) ∙ long, ap length (s .pre .1 .1) ∙ long),
-      ([], (reading-none (budget (s .args .activities)) naming _ _ [] (s .args .list) (s .pre .0 .listed), subst (λ (m : List ℕ). Marked m []) (sym (s .pre .1 .2)) none-marked)),
+      naming-none (s .pre .0) (s .pre .1 .2),
       folded-none _ _ _,
       folded-none _ _ _,
       folded-none _ _ _,
     )
 
-optional-index-requires : tie.Need-optional-index-requires Inv-loop μ-loop
-optional-index-requires c κs = search needs
-
-mark-of-requires : tie.Need-mark-of-requires Inv-loop μ-loop
-mark-of-requires c κs = search needs
-
-at-mark : (c : tie.After-mark-of Inv-loop μ-loop) → c .mark-of .result < 501
-at-mark c = place-below (numberOption (c .before .optional-index .result .value)) (c .mark-of .ensures)
-
-mul-read-budget : tie.Need-mul-read-budget Inv-loop μ-loop
-mul-read-budget c = omega (arith, at-mark c)
-
-slice-read-read-budget : tie.Need-slice-read-read-budget Inv-loop μ-loop
-slice-read-read-budget c = omega (arith, at-mark (c .before), c .before .before .before .before .loop .inv .1 .1 .1 .long)
-
-read-budget-requires : tie.Need-read-budget-requires Inv-loop μ-loop
-read-budget-requires c κs = search needs
+next-budget-requires : tie.Need-next-budget-requires Inv-loop μ-loop
+next-budget-requires c κs = naming-long (c .before .before .loop .inv .1)
 
 take-budget-requires : tie.Need-take-budget-requires Inv-loop μ-loop
 take-budget-requires c κs =
-    let l = c .before .before .before .before .before .before .before .before .loop in
-    (l .inv .0 .0, l .inv .0 .1, l .inv .1 .1 .1 .long)
+    let l = c .before .before .before .before .before .before .loop in
+    (l .inv .0 .0, l .inv .0 .1, naming-long (l .inv .1))
 
 add-i : tie.Need-add-i Inv-loop μ-loop
-add-i c = omega (arith, c .before .before .before .before .before .before .before .before .before .before .before .before .loop-test .taken, c .before .before .before .before .before .before .before .before .before .before .before .before .before .before .before .before .good .1 .0)
+add-i c = omega (arith, c .before .before .before .before .before .before .before .before .before .before .loop-test .taken, c .before .before .before .before .before .before .before .before .before .before .before .before .before .before .good .1 .0)
 
 loop-less : tie.Need-loop-less Inv-loop μ-loop
 loop-less c = search needs
@@ -89,28 +65,13 @@ loop-again : tie.Need-loop-again Inv-loop μ-loop
 unfolding budgetOf
 loop-again c =
     let call = c .before .before .before .before .take-budget in
-    let got = c .before .before .before .before .before .before .before .before .read-budget in
-    let mark = c .before .before .before .before .before .before .before .before .before .before in
-    let l = mark .before .before .before .loop in
-    let more = mark .before .before .loop-test .taken in
-    let s = mark .before .before .before .before .before .before in
-    let n = s .args .activities in
-    let bytes = s .args .book .now in
-    let before = l .inv .1 .0 in
-    let reading = l .inv .1 .1 .0 in
-    let marked = l .inv .1 .1 .1 in
-    let read = O (index n) .read bytes (l .next) .0 in
-    let name = numberOption (got .result .activity) in
-    let named : numberOption (mark .before .optional-index .result .value) ≡ read = ap (λ v. v .0) (mark .before .optional-index .ensures) in
-    let new : eqb (getD (l .marks) (mark .mark-of .result) 0) 0 ≡ isNew before read =
-    rw (mark .mark-of .ensures, named) (sym (marked .same read (index-small n bytes (l .next) (s .pre .0 .most))))
-    in
-    let b = got .ensures before new in
-    let its : name ≡ budget n before .read bytes (l .next) .0 .activity = ap (λ v. v .0 .activity) b in
-    let held : Small name = subst Small (sym its) (budget-small n before bytes (l .next) (s .pre .0 .most)) in
-    let e = reading-next reading more b in (
+    let got = c .before .before .before .before .before .before .before .before .next-budget in
+    let l = c .before .before .before .before .before .before .before .before .before .before .before .loop in
+    let more = c .before .before .before .before .before .before .before .before .before .before .loop-test .taken in
+    let most = c .before .before .before .before .before .before .before .before .before .before .before .before .before .before .pre .0 .most in
+    let e = naming-next (l .inv .1) most more (got .result) (got .ensures) in (
       (c .before .before .before .original .given ∙ l .inv .0 .0, c .before .before .planned .given ∙ l .inv .0 .1),
-      (name ∷ before, (reading-more reading more b, subst (λ (m : List ℕ). Marked m (name ∷ before)) (sym (call .ensures .1 .1)) (one-marked marked name held))),
+      naming-more (l .inv .1) most more (got .result) (got .ensures) (call .ensures .1 .1),
       folded-more (l .inv .2) e _ (call .ensures .0),
       folded-more (l .inv .3) e _ (call .ensures .1 .0),
       folded-more (l .inv .4) e _ (call .ensures .1 .1),
@@ -125,11 +86,10 @@ start-length :
 start-length c =
     let l = c .before .loop in
     let s = c .before .before .before .before in
-    let none-yet : length (replicate 501 (pos 0)) ≡ 501 = length-replicate 501 (pos 0) in
-    let unmarked : length (replicate {A = ℕ} 501 0) ≡ 501 = length-replicate {A = ℕ} 501 0 in (
+    let none-yet : length (replicate 501 (pos 0)) ≡ 501 = length-replicate 501 (pos 0) in (
       omega (arith, l .inv .0 .0, ap length (s .pre .1 .0), none-yet),
       omega (arith, l .inv .0 .1, ap length (s .pre .1 .1), none-yet),
-      omega (arith, l .inv .1 .1 .1 .long, ap length (s .pre .1 .2), unmarked),
+      naming-kept (l .inv .1) _ (s .pre .1 .2),
     )
 
 same-length : tie.Need-same-length Inv-loop μ-loop
@@ -146,7 +106,7 @@ unfolding saturated
 returns c =
     let l = c .before .loop in
     let s = c .before .before .before .before in
-    let all = reading-end (l .inv .1 .1 .0) (c .loop-test .left) in
+    let all = naming-end (l .inv .1) (c .loop-test .left) in
     let b = content (s .args .book .now) in
     let ask = s .pre .0 in
     let n = s .args .activities in (
@@ -164,11 +124,7 @@ take-budgets-spec =
     Inv-loop
     μ-loop
     loop-holds
-    optional-index-requires
-    mark-of-requires
-    mul-read-budget
-    slice-read-read-budget
-    read-budget-requires
+    next-budget-requires
     take-budget-requires
     add-i
     loop-less

@@ -1,15 +1,11 @@
 -- `read_ledger` meets its contract: the budgets, the log, and the two sums.
 use Prim.Native.Nat.{ℕ}
-use mathlib.Core.Path.{sym, ap, subst, _∙_}
-use mathlib.Core.List.{List, foldl}
+use mathlib.Core.Path.{sym, ap, _∙_}
 use lib.ListN.{length, length-replicate}
 use Rattle.format.specs.Verdict.{content}
-use Rattle.book.proofs.Plan.{activities-most, budgets-in-range, log-in-range}
-use Rattle.budget.specs.Owners.{budgetPlace, changePlace, markedBy, MarksNamed}
 use Rattle.budget.proofs.Owners.{owner-length}
 use Rattle.budget.proofs.Taken.{current-column, proposed-column}
-use Rattle.budget.proofs.Named.{marks-named}
-use Rattle.budget.proofs.Accepted.{plan-budgets, plan-log}
+use Rattle.budget.proofs.Accepted.{plan-named, plan-budgets, plan-log}
 use borrow.Author.Needs.{needs}
 use Rattle.budget.proofs.ledger.read_ledger.Statement.{statement}
 use Rattle.budget.proofs.ledger.read_ledger.Tie as tie
@@ -55,12 +51,7 @@ returns c =
     let budgets = c .before .before .before .before .before .before .before .before .before .before .before .before .before .before .before .before .before .before .before .before .take-budgets in
     let log = c .before .before .before .before .before .before .before .before .before .before .before .before .take-changes in
     let book = content (s .args .book .now) in
-    let sure = current-column book _ _ _ (budgets .ensures .0) (log .ensures .0) (c .before .before .before .before .before .add-to .ensures) in
-    let marks =
-    log .ensures .1 .1
-    ∙ ap (λ (m : List ℕ). foldl (markedBy changePlace) m (book .log))
-    (budgets .ensures .1 .1 ∙ ap (λ (m : List ℕ). foldl (markedBy budgetPlace) m (book .budgets)) (s .pre .1 .1 .1 .2))
-    in (
+    let sure = current-column book _ _ _ (budgets .ensures .0) (log .ensures .0) (c .before .before .before .before .before .add-to .ensures) in (
       budgets .ensures .0,
       (
         budgets .ensures .1 .0,
@@ -68,8 +59,7 @@ returns c =
           sure,
           (
             proposed-column book _ _ _ sure (log .ensures .1 .0) (c .before .add-to2 .ensures),
-            subst (λ (m : List ℕ). MarksNamed m book) (sym marks)
-                (marks-named book (s .args .plan .activities .count) (activities-most (s .pre .0)) (budgets-in-range (s .pre .0)) (log-in-range (s .pre .0))),
+            plan-named (s .pre .0) (s .pre .1 .1 .1 .2) (budgets .ensures .1 .1) (log .ensures .1 .1),
           ),
         ),
       ),
