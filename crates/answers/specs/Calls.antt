@@ -27,7 +27,7 @@ asks is ds = record { activities = is; dates = ds }
 unfoldable pub isActivity : Book → ℕ → Bool
 isActivity book i = ltb i (length (book .activities))
 
--- D's range
+-- document 01's status date is within D's range, and so is every asked date
 unfoldable pub isDate : ℕ → Bool
 isDate d = leb 10957 d && leb d 47481
 

@@ -39,7 +39,7 @@ usuallyWorks c date =
     isListed (c .extraDays) date
     || (not (isListed (c .holidays) date || isRegionHoliday (c .region) date) && worksOn (c .week) (weekdayOf (pos date)))
 
--- the exceptions before all else
+-- document 01's `is_working`: the exceptions before all else
 unfoldable pub isWorking : Calendar → ℕ → Bool
 isWorking c date = Option·getD (exceptionOn (c .exceptions) date) (usuallyWorks c date)
 

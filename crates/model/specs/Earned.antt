@@ -108,10 +108,11 @@ ownEarned book date i = cond (isLeaf (parents book) i) (leafEarned book date i) 
 unfoldable pub earnedAt : Book → ℕ → ℕ → Earned
 earnedAt book date i = rollUp addEarned (parents book) (ownEarned book date) i
 
+-- document 01's `earned_value`: a row for each activity
 unfoldable pub earnedValue : Book → ℕ → List Earned
 earnedValue book date = map (earnedAt book date) (indices (parents book))
 
--- the figures of the leaves, added up
+-- document 01's `project_earned`: the figures of the leaves, added up
 unfoldable pub projectEarned : Book → ℕ → Earned
 projectEarned book date = foldl addEarned noEarned (map (earnedAt book date) (leaves (parents book)))
 

@@ -53,5 +53,6 @@ periodPoint book p = record {
   actual = toDate book actualIn p;
 }
 
+-- document 01's `period_points`
 unfoldable pub periodPoints : Book → List PeriodPoint
 periodPoints book = map (periodPoint book) (span 0 (length (book .periods)))

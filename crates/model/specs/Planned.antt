@@ -31,7 +31,7 @@ abbrev pub budgetBy : Option BaselineLine → ℤ → ℤ
 budgetBy none cost = cost
 budgetBy (some line) cost = line .cost
 
--- the budget at completion (BAC)
+-- document 01's budget of an activity: the budget at completion (BAC)
 unfoldable pub budgetOf : Book → ℕ → ℤ
 budgetOf book i = budgetBy (lineOf book i) (costOf book i .budget)
 
@@ -53,7 +53,7 @@ plannedAmounts book i = spreadOver (budgetOf book i) (listedDays book i)
 abbrev pub isUpTo : ℕ → Dated → Bool
 isUpTo date x = leb (x .day) date
 
--- the sum of the shares of the listed days up to the date (PV)
+-- document 01's planned value of a leaf at a date (PV): the sum of the shares of the listed days up to it
 unfoldable pub plannedOn : Book → ℕ → ℕ → ℤ
 plannedOn book date i = saturatedSum (keep (isUpTo date) (plannedAmounts book i))
 
@@ -68,7 +68,7 @@ unfoldable pub running : ℤ → List Dated → List Dated
 running total [] = []
 running total (x ∷ xs) = let next = clamp w64 (total +ℤ x .amount) in on (x .day) next ∷ running next xs
 
--- by date over all leaves, then along the dates; a point only where a leaf lists the day
+-- document 01's `planned_curve`: by date over all leaves, then along the dates; a point only where a leaf lists the day
 unfoldable pub plannedCurve : Book → List Dated
 plannedCurve book = running (pos 0) (points (plannedByDay book))
 

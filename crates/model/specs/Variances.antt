@@ -37,6 +37,7 @@ unfoldable pub lastAmong : List BaselineLine → ℕ → Option BaselineLine
 lastAmong [] i = none
 lastAmong (l ∷ ls) i = orElse (lastAmong ls i) (cond (eqb (l .activity) i) (some l) none)
 
+-- document 01's line that counts here: the last of an activity
 unfoldable pub lastLine : Book → ℕ → Option BaselineLine
 lastLine book i = lastAmong (Option·getD (book .baseline) []) i
 
@@ -60,5 +61,6 @@ varianceBy book i (some line) = some (varianceFrom book i line)
 unfoldable pub varianceOf : Book → ℕ → Option Variance
 varianceOf book i = varianceBy book i (lastLine book i)
 
+-- the variances of baseline.rs
 unfoldable pub variances : Book → List (Option Variance)
 variances book = map (varianceOf book) (indices (parents book))
