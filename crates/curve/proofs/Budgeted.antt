@@ -32,7 +32,8 @@ use Rattle.earned.specs.Listed.{listedFirst, listedLast}
 use Rattle.earned.specs.Own.{ofLeaf}
 use Rattle.earned.proofs.Entries.{entries-length, entry-at}
 use Rattle.earned.proofs.Baselines.{plan-count, listed-spans, listed-days}
-use Rattle.curve.specs.Columns.{budgetLaid, budgetsLaid, AreColumns}
+use Rattle.earned.specs.Columns.{AreColumns}
+use Rattle.curve.specs.Columns.{budgetLaid, budgetsLaid}
 
 -- what the elements that pass give is what all give, where those that do not pass give nothing
 flat-kept : {A B : Type 0} (q : A → Bool) (f g : A → List B) (xs : List A) → ((x : A) → List·Memᴰ x xs → g x ≡ cond (q x) (f x) []) → flatMap g xs ≡ flatMap f (keep q xs)

@@ -19,7 +19,8 @@ use Rattle.spending.specs.Charges.{rowOf, AreTables}
 use Rattle.spending.specs.Rows.{markedSums}
 use Rattle.spending.proofs.Laying.{laid-same}
 use Rattle.spending.proofs.Pointing.{points-tabled}
-use Rattle.curve.specs.Columns.{budgetsLaid, AreColumns}
+use Rattle.earned.specs.Columns.{AreColumns}
+use Rattle.curve.specs.Columns.{budgetsLaid}
 use Rattle.curve.proofs.Narrow.{curve-from}
 use Rattle.curve.proofs.Budgeted.{planned-within, columns-planned}
 

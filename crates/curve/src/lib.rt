@@ -1,5 +1,4 @@
 // The planned curve: the running total of what is planned by date, over all leaves.
-use crate::columns::fill_columns;
 use crate::leaves::lay_leaves;
 use crate::totals::write_totals;
 use activities::Stretch;
@@ -10,19 +9,21 @@ use book::layout::Baseline;
 use book::layout::Plan;
 use book::leaves::leaf_marks;
 use calendar::all::fill_all;
+use earned::columns::list_columns;
 use fields::OptionalNumber;
 use spending::is_small;
-ghost use mathlib.Core.Path.{_≡_};
 ghost use Prim.Native.Nat.{_+_, _≤_, _<_};
 ghost use lib.ListN.{length};
 ghost use Rattle.format.specs.Verdict.{content};
 ghost use Rattle.book.specs.Plan.{IsPlanOf, IsBaselineOf};
+ghost use Rattle.model.specs.Tree.{parents};
 ghost use Rattle.model.specs.Planned.{plannedCurveBetween};
+ghost use Rattle.tree.specs.Figures.{MarksLeaves};
 ghost use Rattle.spending.specs.Charges.{rowOf, AreTables};
-ghost use Rattle.spending.specs.Rows.{pointRows, written, Writes};
-ghost use Rattle.curve.specs.Columns.{AreColumns, AreAsked};
+ghost use Rattle.spending.specs.Rows.{pointRows, Writes};
+ghost use Rattle.earned.specs.Columns.{AreColumns, FourLong};
+ghost use Rattle.curve.specs.Columns.{AreAsked};
 
-pub mod columns;
 pub mod leaves;
 pub mod totals;
 
@@ -227,6 +228,52 @@ fn rows_of(
     )
 }
 
+// The rows between two dates, with columns to work in.
+fn rows_by(
+    book: &[u8],
+    date: OptionalNumber,
+    plan: Plan,
+    baseline: Baseline,
+    leaves: &[u64],
+    budgets: &mut [i64],
+    firsts: &mut [u64],
+    lasts: &mut [u64],
+    calendars: &mut [u64],
+    from: u64,
+    to: u64,
+    out: &mut [u64],
+) -> u64
+    requires { ⌜ IsPlanOf (now book) date plan ⌝ }
+    requires { ⌜ IsBaselineOf (now book) plan baseline ⌝ }
+    requires { ⌜ MarksLeaves (now leaves) (parents (content (now book))) × (plan .activities .count ≤ length (now leaves)) ⌝ }
+    requires { ⌜ FourLong (plan .activities .count) (now budgets) (now firsts) (now lasts) (now calendars) ⌝ }
+    ensures { λ r. ⌜ Writes (pointRows (plannedCurveBetween (content (now (book .entry))) from to)) r (now (out .entry)) (now (out .exit)) ⌝ }
+{
+    list_columns(
+        book,
+        date,
+        plan,
+        baseline,
+        leaves,
+        budgets,
+        firsts,
+        lasts,
+        calendars,
+    );
+    rows_of(
+        book,
+        plan,
+        leaves,
+        budgets,
+        firsts,
+        lasts,
+        calendars,
+        from,
+        to,
+        out,
+    )
+}
+
 // The points of the planned curve between two dates, both included, as rows: written where they fit. How many numbers they are.
 pub fn curve_rows(
     book: &[u8],
@@ -239,8 +286,7 @@ pub fn curve_rows(
 ) -> u64
     requires { ⌜ IsPlanOf (now book) date plan ⌝ }
     requires { ⌜ IsBaselineOf (now book) plan baseline ⌝ }
-    ensures { λ r. ⌜ r ≡ length (pointRows (plannedCurveBetween (content (now (book .entry))) from to)) ⌝ }
-    ensures { λ r. ⌜ now (out .exit) ≡ written (pointRows (plannedCurveBetween (content (now (book .entry))) from to)) (now (out .entry)) ⌝ }
+    ensures { λ r. ⌜ Writes (pointRows (plannedCurveBetween (content (now (book .entry))) from to)) r (now (out .entry)) (now (out .exit)) ⌝ }
 {
     let activities = plan.activities;
     let calendars = plan.calendars;
@@ -250,7 +296,7 @@ pub fn curve_rows(
     let mut firsts = [0u64; 500];
     let mut lasts = [0u64; 500];
     let mut kept = [0u64; 500];
-    fill_columns(
+    rows_by(
         book,
         date,
         plan,
@@ -260,15 +306,6 @@ pub fn curve_rows(
         &mut firsts[..n],
         &mut lasts[..n],
         &mut kept[..n],
-    );
-    rows_of(
-        book,
-        plan,
-        &leaves,
-        &budgets[..n],
-        &firsts[..n],
-        &lasts[..n],
-        &kept[..n],
         from,
         to,
         out,

@@ -2,3 +2,4 @@ pub mod Entries
 pub mod Lines
 pub mod Baselines
 pub mod Own
+pub mod Lending

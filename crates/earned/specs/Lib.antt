@@ -1,3 +1,4 @@
 pub mod Listed
 pub mod Done
 pub mod Own
+pub mod Columns

@@ -2,7 +2,6 @@
 use Prim.Native.Nat.{ℕ, _*_, _≤_, _<_}
 use mathlib.Core.Path.{_≡_, subst}
 use mathlib.Core.List.{List, _++_}
-use borrow.Author.Needs.{needs}
 use lib.IntN.{ℤ}
 use lib.ListN.{length, take, drop}
 use lib.Seq.{length-take-le}
@@ -11,18 +10,15 @@ use Rattle.format.specs.Book.{Book}
 use Rattle.format.specs.Verdict.{content}
 use Rattle.book.specs.declared.layout.Plan.{Plan}
 use Rattle.book.specs.Plan.{IsPlanOf}
-use Rattle.book.proofs.Plan.{activities-count, activities-most}
+use Rattle.book.proofs.Plan.{activities-count}
 use Rattle.costs.specs.Arguments.{Sums, Kinds}
 use Rattle.rows.specs.Rows.{numbers}
 use Rattle.answers.specs.declared.Reply.the-variants.{Accepted, Refused}
 use Rattle.answers.specs.Rows.{Rows}
 use Rattle.answers.specs.Calls.{Asked, Answers}
 use Rattle.answers.proofs.Replies.{Askable}
-use Rattle.answers.proofs.Sized.{Sized, no-room, in-front}
+use Rattle.answers.proofs.Sized.{Sized, no-room, nothing-there, in-front}
 use Rattle.figures.specs.Columns.{FiveLong}
-
--- an array of 500 has room for each activity, and its lent part has their count
-pub ruleset lending = (needs, activities-most, length-take-le)
 
 module _ (n : ℕ) (column : List ℤ) (h : n ≤ length column) where
   abbrev lent : List ℤ
@@ -47,6 +43,10 @@ module _ {s : List ℕ} {date : OptionalNumber} {plan : Plan} (p : IsPlanOf s da
 
   pub rows-short : length out < plan .activities .count * width → Answers asked rows (content s) out (Refused 10 0) out
   rows-short h = no-room rows (content s) out ok planned h
+
+  -- no rows without activities
+  pub rows-none : plan .activities .count ≡ 0 → Answers asked rows (content s) out (Accepted 0) out
+  rows-none z = nothing-there rows (content s) out ok planned z
 
   pub rows-filled :
       plan .activities .count * width ≤ length out → (front : List ℕ) → front ≡ numbers (rows (content s)) →

@@ -1,7 +1,7 @@
 -- The rows of earned value: from the columns of the activities' own figures, rolled up, or added up over the leaves.
 use Prim.Native.Nat.{ℕ, _*_, _<_}
 use mathlib.Core.Path.{_≡_, refl, ap, ap₂, sym, _∙_}
-use mathlib.Core.List.{List, [], _∷_, map, map-map, flatMap}
+use mathlib.Core.List.{List, [], _∷_, map, map-map}
 use native.Mathlib.Omega.{arith}
 use lib.IntN.{ℤ, pos}
 use lib.ListN.{length, set}
@@ -32,8 +32,9 @@ use Rattle.earned.proofs.Entries.{entry-at}
 use Rattle.earned.proofs.Baselines.{plan-count, listed-days}
 use Rattle.rows.specs.Rows.{numbers, placed}
 use Rattle.rows.proofs.Columns.{column-at, placedAll, rows-made}
+use Rattle.rows.proofs.Sets.{sets-whole}
 use Rattle.answers.specs.Rows.{earnedRow, earnedValueRows, projectEarnedRows}
-use Rattle.answers.proofs.Sized.{Sized}
+use Rattle.answers.proofs.Sized.{Sized, one-sized, one-numbers}
 use Rattle.figures.specs.Columns.{columnOf, OwnColumns}
 use Rattle.rows.proofs.Rolled.{rolled-figures, leaf-values}
 use Rattle.figures.proofs.Made.{by-index-size, count-is}
@@ -48,9 +49,23 @@ pub values-size : (date : ℕ) (book : Book) → Sized (earnedValueRows date boo
 unfolding earnedRow
 values-size date book = by-index-size book 6 (λ i. earnedRow (earnedAt book date i)) (λ i. refl) (earnedValueRows date book) (values-by-index date book)
 
-pub sums-size : (date : ℕ) (book : Book) → Sized (projectEarnedRows date book) 1 6
-unfolding projectEarnedRows earnedRow numbers flatMap
-sums-size date book = record { many = refl; long = refl }
+module _ (date : ℕ) (book : Book) where
+  pub project-sized : Sized (projectEarnedRows date book) 1 6
+  unfolding projectEarnedRows earnedRow
+  project-sized = one-sized (earnedRow (projectEarned book date)) 6 refl
+
+  pub project-row : numbers (projectEarnedRows date book) ≡ earnedRow (projectEarned book date)
+  unfolding projectEarnedRows
+  project-row = one-numbers (earnedRow (projectEarned book date))
+
+-- ---- one row in lent memory
+
+pub earned-put :
+    (e : Earned) (out : List ℕ) → length out ≡ 6 →
+    set (set (set (set (set (set out 0 (bits (e .budget))) 1 (bits (e .planned))) 2 (bits (e .earned))) 3 (bits (e .actual))) 4 (bits (e .remaining))) 5 (bits (spentIn e))
+    ≡ earnedRow e
+unfolding earnedRow
+earned-put e out l = sets-whole (earnedRow e) out (sym l)
 
 -- ---- what is planned
 
@@ -128,34 +143,18 @@ module _ (book : Book) (date : ℕ) {budgets planned earned actual remaining : L
       )
       (placed-values out long)
 
-  -- ---- and added up over the leaves the row
+  -- ---- and added up over the leaves the figures of the project
 
-  set-sums :
-      (out : List ℕ) → length out ≡ 6 → let e = projectEarned book date in
-      set (set (set (set (set (set out 0 (bits (e .budget))) 1 (bits (e .planned))) 2 (bits (e .earned))) 3 (bits (e .actual))) 4 (bits (e .remaining))) 5 (bits (spentIn e))
-      ≡ numbers (projectEarnedRows date book)
-  unfolding projectEarnedRows earnedRow numbers flatMap
-  set-sums [] l = absurd (omega arith)
-  set-sums (x1 ∷ []) l = absurd (omega arith)
-  set-sums (x1 ∷ x2 ∷ []) l = absurd (omega arith)
-  set-sums (x1 ∷ x2 ∷ x3 ∷ []) l = absurd (omega arith)
-  set-sums (x1 ∷ x2 ∷ x3 ∷ x4 ∷ []) l = absurd (omega arith)
-  set-sums (x1 ∷ x2 ∷ x3 ∷ x4 ∷ x5 ∷ []) l = absurd (omega arith)
-  set-sums (x1 ∷ x2 ∷ x3 ∷ x4 ∷ x5 ∷ x6 ∷ []) l = refl
-  set-sums (x1 ∷ x2 ∷ x3 ∷ x4 ∷ x5 ∷ x6 ∷ x7 ∷ out) l = absurd (omega arith)
-
-  pub sums-made :
-      (marks : List ℕ) → MarksLeaves marks (parents book) → (out : List ℕ) → length out ≡ 6 → let sum = unmarkedSum marks in
-      set (set (set (set (set (set out 0 (bits (sum budgets))) 1 (bits (sum planned))) 2 (bits (sum earned))) 3 (bits (sum actual))) 4 (bits (sum remaining))) 5
-      (bits (spentOf (sum actual) (sum budgets)))
-      ≡ numbers (projectEarnedRows date book)
-  sums-made marks m out l =
+  pub earned-sum :
+      (r : Earned) (marks : List ℕ) → MarksLeaves marks (parents book) → let sum = unmarkedSum marks in
+      r .budget ≡ sum budgets → r .planned ≡ sum planned → r .earned ≡ sum earned → r .actual ≡ sum actual → r .remaining ≡ sum remaining → r ≡ projectEarned book date
+  earned-sum r marks m isBudget isPlanned isEarned isActual isRemaining =
       let by = earned-figures in
-      rw (
-        leaf-value book date (λ r. r .budget) (by .0) marks m refl (w .budgetsAre),
-        leaf-value book date (λ r. r .planned) (by .1) marks m refl (w .plannedAre),
-        leaf-value book date (λ r. r .earned) (by .2) marks m refl (w .earnedAre),
-        leaf-value book date (λ r. r .actual) (by .3) marks m refl (w .actualAre),
-        leaf-value book date (λ r. r .remaining) (by .4) marks m refl (w .remainingAre),
-      )
-      (set-sums out l)
+      λ k.
+      record {
+        budget = (isBudget ∙ leaf-value book date (λ x. x .budget) (by .0) marks m refl (w .budgetsAre)) k;
+        planned = (isPlanned ∙ leaf-value book date (λ x. x .planned) (by .1) marks m refl (w .plannedAre)) k;
+        earned = (isEarned ∙ leaf-value book date (λ x. x .earned) (by .2) marks m refl (w .earnedAre)) k;
+        actual = (isActual ∙ leaf-value book date (λ x. x .actual) (by .3) marks m refl (w .actualAre)) k;
+        remaining = (isRemaining ∙ leaf-value book date (λ x. x .remaining) (by .4) marks m refl (w .remainingAre)) k;
+      }

@@ -2,4 +2,5 @@
 pub mod cost;
 pub mod kind;
 pub mod own;
+pub mod project;
 pub mod value;

@@ -1,11 +1,9 @@
 // The activities' own figures of earned value, as columns: of leaves, 0 for parents.
-use activities::columns::fill_calendars;
 use answers::open::Opened;
 use book::layout::Baseline;
 use book::layout::Plan;
 use costs::figures::cost_columns;
-use earned::budgets::own_budgets;
-use earned::listed::fill_listed;
+use earned::columns::fill_columns;
 use earned::value::clear_parents;
 use earned::value::own_earned;
 use fields::OptionalNumber;
@@ -23,12 +21,12 @@ ghost use Rattle.model.specs.Costs.{byDay};
 ghost use Rattle.model.specs.Planned.{budgetOf};
 ghost use Rattle.model.specs.Earned.{ownEarned};
 ghost use Rattle.tree.specs.Figures.{MarksLeaves};
-ghost use Rattle.earned.specs.Listed.{Long};
+ghost use Rattle.earned.specs.Columns.{FourLong};
 ghost use Rattle.earned.specs.Own.{ofLeaf};
 ghost use Rattle.figures.specs.Columns.{columnOf, OwnColumns, FiveLong};
 ghost use Rattle.answers.specs.Opened.{IsOpened};
 
-// The budgets, and what is planned of them by a date, over the listed spans, from the planned costs.
+// The budgets, and what is planned of them by a date, from the planned costs; `first`, `last` and `calendars` are columns to work in.
 fn plan_columns(
     book: &[u8],
     date: OptionalNumber,
@@ -39,8 +37,6 @@ fn plan_columns(
     costs: &[i64],
     first: &mut [u64],
     last: &mut [u64],
-    lined: &mut [u64],
-    frozen: &mut [i64],
     calendars: &mut [u64],
     budgets: &mut [i64],
     planned: &mut [i64],
@@ -49,20 +45,27 @@ fn plan_columns(
     requires { ⌜ IsBaselineOf (now book) plan baseline ⌝ }
     requires { ⌜ MarksLeaves (now marks) (parents (content (now book))) × (plan .activities .count ≤ length (now marks)) ⌝ }
     requires { ⌜ now costs ≡ columnOf (λ i. saturatedSum (byDay (content (now book)) Planned i)) (content (now book)) ⌝ }
-    requires { ⌜ Long (plan .activities .count) (now first) (now last) (now lined) (now frozen) ⌝ }
-    requires { ⌜ (length (now calendars) ≡ plan .activities .count) × (length (now budgets) ≡ plan .activities .count) × (length (now planned) ≡ plan .activities .count) ⌝ }
+    requires { ⌜ FourLong (plan .activities .count) (now budgets) (now first) (now last) (now calendars) × (length (now planned) ≡ plan .activities .count) ⌝ }
     ensures budgets { λ r. ⌜ now (budgets .exit) ≡ columnOf (ofLeaf (content (now (book .entry))) (budgetOf (content (now (book .entry))))) (content (now (book .entry))) ⌝ }
     ensures planned { λ r. ⌜ now (planned .exit) ≡ columnOf (λ i. ownEarned (content (now (book .entry))) at i .planned) (content (now (book .entry))) ⌝ }
 {
-    let activities = plan.activities;
     let list = plan.calendars;
-    fill_listed(book, date, plan, baseline, first, last, lined, frozen);
-    own_budgets(lined, frozen, marks, costs, budgets);
-    fill_calendars(book, activities, list.count, calendars);
+    fill_columns(
+        book,
+        date,
+        plan,
+        baseline,
+        marks,
+        costs,
+        budgets,
+        first,
+        last,
+        calendars,
+    );
     own_planned(book, list, at, first, last, calendars, budgets, planned);
 }
 
-// With the columns between in arrays.
+// With columns of its own.
 fn fill_planned(
     book: &[u8],
     date: OptionalNumber,
@@ -86,8 +89,6 @@ fn fill_planned(
     let count = activities.count as usize;
     let mut first = [0u64; 500];
     let mut last = [0u64; 500];
-    let mut lined = [0u64; 500];
-    let mut frozen = [0i64; 500];
     let mut calendars = [0u64; 500];
     plan_columns(
         book,
@@ -99,8 +100,6 @@ fn fill_planned(
         costs,
         &mut first[..count],
         &mut last[..count],
-        &mut lined[..count],
-        &mut frozen[..count],
         &mut calendars[..count],
         budgets,
         planned,

@@ -15,7 +15,7 @@ use Rattle.model.specs.Tree.{parents}
 use Rattle.model.specs.Earned.{addEarned, ownEarned, earnedAt, projectEarned, performance}
 use Rattle.model.proofs.Figures.{FigureOf}
 use Rattle.model.proofs.EarnedValue.{earned-figures}
-use Rattle.tree.specs.Figures.{parentsOf, figureOf, rolledUp, unmarkedSum, MarksLeaves}
+use Rattle.tree.specs.Figures.{parentsOf, figureOf, rolledUp}
 use Rattle.tree.proofs.Rolled.{count-is}
 use Rattle.rows.specs.Rows.{numbers}
 use Rattle.rows.proofs.Columns.{column-at}
@@ -27,7 +27,7 @@ use Rattle.answers.specs.Calls.{asks, isDate, Answers}
 use Rattle.answers.proofs.Replies.{Askable, in-book, none-asked, one-asked}
 use Rattle.answers.proofs.Sized.{Sized, one-numbers, one-sized, in-front}
 use Rattle.figures.specs.Columns.{columnOf, OwnColumns}
-use Rattle.figures.proofs.Earning.{rolled-value, leaf-value}
+use Rattle.figures.proofs.Earning.{rolled-value}
 
 -- ---- the row of each call, and its size
 
@@ -76,12 +76,12 @@ performance-filled i book out ok h x e =
 
 -- ---- the figures, from the columns of the activities' own
 
-module _ (book : Book) (date : ℕ) {budgets planned earned actual remaining : List ℤ} (w : OwnColumns book date budgets planned earned actual remaining) (r : Earned) where
+module _ (book : Book) (date : ℕ) {budgets planned earned actual remaining : List ℤ} (w : OwnColumns book date budgets planned earned actual remaining) where
   -- of one activity: each column rolled up
   pub earned-at :
-      (ps : List ℕ) → parentsOf ps ≡ parents book → (i : ℕ) → i < length ps → let at : List ℤ → ℤ = λ own. figureOf (rolledUp ps own) i in
+      (r : Earned) (ps : List ℕ) → parentsOf ps ≡ parents book → (i : ℕ) → i < length ps → let at : List ℤ → ℤ = λ own. figureOf (rolledUp ps own) i in
       r .budget ≡ at budgets → r .planned ≡ at planned → r .earned ≡ at earned → r .actual ≡ at actual → r .remaining ≡ at remaining → r ≡ earnedAt book date i
-  earned-at ps e i h isBudget isPlanned isEarned isActual isRemaining =
+  earned-at r ps e i h isBudget isPlanned isEarned isActual isRemaining =
       let by = earned-figures in
       λ k.
       record {
@@ -96,18 +96,3 @@ module _ (book : Book) (date : ℕ) {budgets planned earned actual remaining : L
       figure f g is =
           ap (λ (l : List ℤ). figureOf l i) (rolled-value book date f g ps e is)
           ∙ column-at (λ (j : ℕ). f (earnedAt book date j)) (length (parents book)) i (omega (arith, count-is ps, ap length e))
-
-  -- of the project: each column added up over the leaves
-  pub earned-sum :
-      (marks : List ℕ) → MarksLeaves marks (parents book) → let sum = unmarkedSum marks in
-      r .budget ≡ sum budgets → r .planned ≡ sum planned → r .earned ≡ sum earned → r .actual ≡ sum actual → r .remaining ≡ sum remaining → r ≡ projectEarned book date
-  earned-sum marks m isBudget isPlanned isEarned isActual isRemaining =
-      let by = earned-figures in
-      λ k.
-      record {
-        budget = (isBudget ∙ leaf-value book date (λ x. x .budget) (by .0) marks m refl (w .budgetsAre)) k;
-        planned = (isPlanned ∙ leaf-value book date (λ x. x .planned) (by .1) marks m refl (w .plannedAre)) k;
-        earned = (isEarned ∙ leaf-value book date (λ x. x .earned) (by .2) marks m refl (w .earnedAre)) k;
-        actual = (isActual ∙ leaf-value book date (λ x. x .actual) (by .3) marks m refl (w .actualAre)) k;
-        remaining = (isRemaining ∙ leaf-value book date (λ x. x .remaining) (by .4) marks m refl (w .remainingAre)) k;
-      }

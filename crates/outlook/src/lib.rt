@@ -1,10 +1,10 @@
 // How much of an activity is done, and the forecast and the indices of an activity and of the project at a date, as rows.
 use crate::activity::activity_earned;
-use crate::project::project_earned;
 use answers::Reply;
 use answers::is_date;
 use answers::open::Opened;
 use earned::performance::performance;
+use figures::project::project_earned;
 use floats::bits;
 use forecast::put_forecast;
 ghost use mathlib.Core.List.{[], _∷_};
@@ -14,7 +14,6 @@ ghost use Rattle.answers.specs.Calls.{asks, Answers};
 ghost use Rattle.answers.specs.Opened.{IsOpened};
 
 mod activity;
-mod project;
 
 // One number, how much of an activity is done, where the activity is in the book and the number fits.
 pub fn performance_of(book: &[u8], opened: Opened, activity: u64, out: &mut [u64]) -> Reply

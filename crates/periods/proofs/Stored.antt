@@ -1,12 +1,14 @@
 -- The points of the periods from columns of the records are those of the book.
-use Prim.Native.Nat.{ℕ, _<_}
+use Prim.Native.Nat.{ℕ, _≤_, _<_}
 use native.Mathlib.Omega.{arith}
 use mathlib.Core.Path.{_≡_, refl, sym, ap, ap₂, _∙_}
 use mathlib.Core.Bool.{Bool, true, false, cond, _&&_, _||_}
 use mathlib.Core.List.{List, [], _∷_, map, map-map, List·Memᴰ, List·Memᴰ·head, List·Memᴰ·tail}
 use lib.Dec.{eqb, leb}
 use lib.IntN.{ℤ, pos}
-use lib.ListN.{length, length-map}
+use lib.ListN.{length, take, replicate, length-map, length-replicate}
+use lib.Seq.{length-take-le}
+use borrow.Author.Needs.{needs}
 use borrow.Author.Tests.{ne-eqb, lt-leb}
 use Rattle.format.specs.Book.{Activity, PeriodRecord, Book}
 use Rattle.format.specs.InRange.{InRange, Limits, PeriodRecordInRange}
@@ -20,7 +22,7 @@ use Rattle.tree.specs.Figures.{isUnmarked, MarksLeaves}
 use Rattle.tree.proofs.Walks.{at-map}
 use Rattle.costs.proofs.Reading.{every-in}
 use Rattle.periods.specs.Rows.{periodRow}
-use Rattle.periods.specs.Columns.{never, periodIn, closeIn, earnedIn, isIn, closedBy, toDateIn, pointOf, rowsOf}
+use Rattle.periods.specs.Columns.{never, periodIn, closeIn, earnedIn, isIn, closedBy, toDateIn, pointOf, rowsOf, Long}
 
 -- ---- one record
 
@@ -43,6 +45,16 @@ counted-close true x date h = and-true (leb x date)
 counted-close false x date h = lt-leb never date h ∙ and-false (leb x date)
 
 -- ---- columns of records
+
+-- an array's lent part is as long as there are records
+pub ruleset lending = (needs, length-take-le)
+
+-- parts of arrays with room for k records
+pub parts-long : (k n : ℕ) → n ≤ k → Long n (take n (replicate k 0)) (take n (replicate k 0)) (take n (replicate k (pos 0))) (take n (replicate k (pos 0)))
+parts-long k n h =
+    let numbers : length (take n (replicate {A = ℕ} k 0)) ≡ n = length-take-le n (replicate {A = ℕ} k 0) (rw (length-replicate {A = ℕ} k 0) h) in
+    let amounts : length (take n (replicate k (pos 0))) ≡ n = length-take-le n (replicate k (pos 0)) (rw (length-replicate k (pos 0)) h) in
+    record { periodsLong = numbers; closesLong = numbers; earnedLong = amounts; actualLong = amounts }
 
 module _ {A : Type 0} (f : A → ℕ) (t : A → Bool) where
   in-column : (p : ℕ) (xs : List A) → ((x : A) → List·Memᴰ x xs → eqb (f x) p ≡ t x) → isIn p (map f xs) ≡ any t xs

@@ -161,8 +161,43 @@ fn fill_rows(
     fill_points(finishes, planned, periods, closes, earned, actual, out);
 }
 
-// The same, for up to 2,000 records.
-pub fn record_rows(
+// Of up to 64 records.
+fn few_records(
+    book: &[u8],
+    list: Section,
+    activities: u64,
+    marks: &[u64],
+    finishes: &[u64],
+    planned: &[i64],
+    out: &mut [u64],
+)
+    requires { ⌜ Every (PeriodRecordInRange (length (now finishes)) activities) (alikeIn (layout.periodRecord (length (now finishes)) activities) (now book) list) ⌝ }
+    requires { ⌜ (activities ≤ length (now marks)) × (list .count ≤ 64) ⌝ }
+    requires { ⌜ (length (now planned) ≡ length (now finishes)) × (length (now out) ≡ length (now finishes) * 7) ⌝ }
+    ensures { λ r. ⌜ now (out .exit) ≡ numbers (rowsOf (now (finishes .entry)) (now (planned .entry)) (now (marks .entry)) (alikeIn (layout.periodRecord (length (now (finishes .entry))) activities) (now (book .entry)) list)) ⌝ }
+{
+    let count = list.count as usize;
+    let mut periods = [0u64; 64];
+    let mut closes = [0u64; 64];
+    let mut earned = [0i64; 64];
+    let mut actual = [0i64; 64];
+    fill_rows(
+        book,
+        list,
+        activities,
+        marks,
+        finishes,
+        planned,
+        &mut periods[..count],
+        &mut closes[..count],
+        &mut earned[..count],
+        &mut actual[..count],
+        out,
+    );
+}
+
+// Of up to 2,000 records.
+fn many_records(
     book: &[u8],
     list: Section,
     activities: u64,
@@ -194,4 +229,26 @@ pub fn record_rows(
         &mut actual[..count],
         out,
     );
+}
+
+// Of up to 2,000 records, with small columns for few.
+pub fn record_rows(
+    book: &[u8],
+    list: Section,
+    activities: u64,
+    marks: &[u64],
+    finishes: &[u64],
+    planned: &[i64],
+    out: &mut [u64],
+)
+    requires { ⌜ Every (PeriodRecordInRange (length (now finishes)) activities) (alikeIn (layout.periodRecord (length (now finishes)) activities) (now book) list) ⌝ }
+    requires { ⌜ (activities ≤ length (now marks)) × (list .count ≤ 2000) ⌝ }
+    requires { ⌜ (length (now planned) ≡ length (now finishes)) × (length (now out) ≡ length (now finishes) * 7) ⌝ }
+    ensures { λ r. ⌜ now (out .exit) ≡ numbers (rowsOf (now (finishes .entry)) (now (planned .entry)) (now (marks .entry)) (alikeIn (layout.periodRecord (length (now (finishes .entry))) activities) (now (book .entry)) list)) ⌝ }
+{
+    if list.count <= 64 {
+        few_records(book, list, activities, marks, finishes, planned, out);
+        return;
+    }
+    many_records(book, list, activities, marks, finishes, planned, out);
 }

@@ -63,6 +63,10 @@ pub fn planned_curve_of(book: &[u8], opened: Opened, from: u64, to: u64, out: &m
     }
     let date = opened.date;
     let plan = opened.plan;
+    let activities = plan.activities;
+    if activities.count == 0 {
+        return Reply::Accepted(0);
+    }
     let ledger = opened.ledger;
     let baseline = ledger.baseline;
     let room = out.len() as u64;

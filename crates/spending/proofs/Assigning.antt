@@ -8,7 +8,7 @@ use native.Mathlib.Decide.{decLt}
 use borrow.Author.Tests.{lt-ltb, le-ltb}
 use lib.Dec.{ltb}
 use lib.IntN.{ℤ, pos}
-use lib.ListN.{length, getD, take, length-append, length-map, List·getD-append}
+use lib.ListN.{length, getD, take, replicate, length-append, length-map, length-replicate, List·getD-append}
 use lib.Seq.{sets, length-sets, length-take-le, getD-append-add, getD-take}
 use Rattle.format.specs.declared.Accrual.the-variants.{Start}
 use Rattle.format.specs.Enumeration.{accrualNumber}
@@ -19,16 +19,27 @@ use Rattle.fields.specs.declared.OptionalNumber.{OptionalNumber}
 use Rattle.book.specs.declared.layout.Plan.{Plan}
 use Rattle.book.specs.Places.{placesIn}
 use Rattle.book.specs.Plan.{IsPlanOf}
-use Rattle.book.proofs.Plan.{assignments-count, expenses-count}
+use Rattle.book.proofs.Plan.{assignments-count, assignments-most, expenses-count, expenses-most}
 use Rattle.tree.proofs.Walks.{at-map}
 use Rattle.charges.specs.Assigned.{noAssignment, assignmentAt, ownerOf, sourceOf}
 use Rattle.charges.proofs.Assigning.{at-source, in-range}
 use Rattle.spending.specs.Charges.{Charge, work, cost, charges, IsWork, IsCharge, AreCharges}
+use Rattle.spending.specs.Planned.{HasRoom}
 use Rattle.spending.proofs.Setting.{entry-first, entry-second}
 
 -- what stands for an expense where there is none
 abbrev noExpense : Expense
 noExpense = record { activity = 0; accrual = Start; planned = pos 0; actual = pos 0; remaining = pos 0 }
+
+-- arrays of n numbers have room for up to n charges
+pub arrays-room : (plan : Plan) (n : ℕ) → plan .assignments .count + plan .expenses .count ≤ n → HasRoom plan (replicate n 0) (replicate n 0) (replicate n (pos 0))
+arrays-room plan n h =
+    let numbers = length-replicate {A = ℕ} n 0 in
+    record { forOwners = omega arith; forSources = omega arith; forAmounts = omega (arith, length-replicate n (pos 0)) }
+
+-- so many charges a book has at most
+pub charges-most : {s : List ℕ} {date : OptionalNumber} {plan : Plan} → IsPlanOf s date plan → plan .assignments .count + plan .expenses .count ≤ 3000
+charges-most p = omega (arith, assignments-most p, expenses-most p)
 
 -- the assignments come first, then the expenses
 module _ (xs : List Assignment) (ys : List Expense) (d : Charge) where
@@ -73,10 +84,7 @@ module _ {s : List ℕ} {date : OptionalNumber} {plan : Plan} (p : IsPlanOf s da
           planned = g;
         }
 
-    module _ (t₁ t₂ : List ℕ) (t₃ : List ℤ) (owners sources : List ℕ) (amounts : List ℤ)
-        (room₁ : plan .assignments .count + plan .expenses .count ≤ length t₁)
-        (room₂ : plan .assignments .count + plan .expenses .count ≤ length t₂)
-        (room₃ : plan .assignments .count + plan .expenses .count ≤ length t₃)
+    module _ {t₁ t₂ : List ℕ} {t₃ : List ℤ} (wide : HasRoom plan t₁ t₂ t₃) {owners sources : List ℕ} {amounts : List ℤ}
         (owned : owners ≡ sets (sets t₁ 0 (map ownerOf (content s .assignments))) (plan .assignments .count) (map (λ (e : Expense). e .activity) (content s .expenses)))
         (placed : sources ≡ sets (sets t₂ 0 (map (sourceOf places) (content s .assignments))) (plan .assignments .count) (map (λ (e : Expense). accrualNumber (e .accrual)) (content s .expenses)))
         (planned : amounts ≡ sets (sets t₃ 0 (map (λ (x : Assignment). x .planned) (content s .assignments))) (plan .assignments .count) (map (λ (e : Expense). e .planned) (content s .expenses)))
@@ -100,18 +108,18 @@ module _ {s : List ℕ} {date : OptionalNumber} {plan : Plan} (p : IsPlanOf s da
         assigned k d h =
             rw (charge-first xs ys d k h)
             (work-is k h (getD owners k 0) (getD sources k 0) (getD amounts k (pos 0))
-            (first-entry xs ys a is t₁ (enough room₁) ownerOf (λ (e : Expense). e .activity) 0 owners owned k h)
-            (first-entry xs ys a is t₂ (enough room₂) (sourceOf places) (λ (e : Expense). accrualNumber (e .accrual)) 0 sources placed k h)
-            (first-entry xs ys a is t₃ (enough room₃) (λ (x : Assignment). x .planned) (λ (e : Expense). e .planned) (pos 0) amounts planned k h))
+            (first-entry xs ys a is t₁ (enough (wide .forOwners)) ownerOf (λ (e : Expense). e .activity) 0 owners owned k h)
+            (first-entry xs ys a is t₂ (enough (wide .forSources)) (sourceOf places) (λ (e : Expense). accrualNumber (e .accrual)) 0 sources placed k h)
+            (first-entry xs ys a is t₃ (enough (wide .forAmounts)) (λ (x : Assignment). x .planned) (λ (e : Expense). e .planned) (pos 0) amounts planned k h))
 
         spent : (k : ℕ) (d : Charge) → k < length ys → let j = length xs + k in
             IsCharge s false (getD (charges (content s)) j d) (getD owners j 0) (getD sources j 0) (getD amounts j (pos 0))
         spent k d h =
             rw (charge-second xs ys d k h)
             record {
-              owned = second-entry xs ys a is t₁ (enough room₁) ownerOf (λ (e : Expense). e .activity) 0 owners owned k h;
-              accrues = second-entry xs ys a is t₂ (enough room₂) (sourceOf places) (λ (e : Expense). accrualNumber (e .accrual)) 0 sources placed k h;
-              planned = second-entry xs ys a is t₃ (enough room₃) (λ (x : Assignment). x .planned) (λ (e : Expense). e .planned) (pos 0) amounts planned k h;
+              owned = second-entry xs ys a is t₁ (enough (wide .forOwners)) ownerOf (λ (e : Expense). e .activity) 0 owners owned k h;
+              accrues = second-entry xs ys a is t₂ (enough (wide .forSources)) (sourceOf places) (λ (e : Expense). accrualNumber (e .accrual)) 0 sources placed k h;
+              planned = second-entry xs ys a is t₃ (enough (wide .forAmounts)) (λ (x : Assignment). x .planned) (λ (e : Expense). e .planned) (pos 0) amounts planned k h;
             }
 
         all-charges : length (charges (content s)) ≡ length xs + length ys
@@ -119,7 +127,7 @@ module _ {s : List ℕ} {date : OptionalNumber} {plan : Plan} (p : IsPlanOf s da
 
         -- the owners, as far as there are charges
         fits : a + plan .expenses .count ≤ length owners
-        fits = omega (arith, room₁, column-long xs ys a is t₁ (enough room₁) ownerOf (λ (e : Expense). e .activity) 0 owners owned)
+        fits = omega (arith, wide .forOwners, column-long xs ys a is t₁ (enough (wide .forOwners)) ownerOf (λ (e : Expense). e .activity) 0 owners owned)
 
         part-long : length (take (a + plan .expenses .count) owners) ≡ a + plan .expenses .count
         part-long = length-take-le (a + plan .expenses .count) owners fits
@@ -128,8 +136,8 @@ module _ {s : List ℕ} {date : OptionalNumber} {plan : Plan} (p : IsPlanOf s da
         charges-are =
             record {
               all = omega (arith, part-long, all-charges, assignments-count p, expenses-count p);
-              longSources = omega (arith, part-long, room₂, column-long xs ys a is t₂ (enough room₂) (sourceOf places) (λ (e : Expense). accrualNumber (e .accrual)) 0 sources placed);
-              longAmounts = omega (arith, part-long, room₃, column-long xs ys a is t₃ (enough room₃) (λ (x : Assignment). x .planned) (λ (e : Expense). e .planned) (pos 0) amounts planned);
+              longSources = omega (arith, part-long, wide .forSources, column-long xs ys a is t₂ (enough (wide .forSources)) (sourceOf places) (λ (e : Expense). accrualNumber (e .accrual)) 0 sources placed);
+              longAmounts = omega (arith, part-long, wide .forAmounts, column-long xs ys a is t₃ (enough (wide .forAmounts)) (λ (x : Assignment). x .planned) (λ (e : Expense). e .planned) (pos 0) amounts planned);
               at = λ k d h.
                   let l : k < a + plan .expenses .count = omega (arith, part-long) in
                   rw (getD-take (a + plan .expenses .count) owners k 0 l) (go k d l (decLt k a));

@@ -19,7 +19,7 @@ ghost use Rattle.format.specs.Format as layout;
 ghost use Rattle.book.specs.Sections.{alikeIn};
 ghost use Rattle.charges.specs.Assigned.{ownerOf, sourceOf};
 ghost use Rattle.spending.specs.Charges.{AreCharges};
-ghost use Rattle.spending.specs.Planned.{IsPlan};
+ghost use Rattle.spending.specs.Planned.{IsPlan, HasRoom};
 
 fn accrual_number(accrual: Accrual) -> u64
     ensures { λ r. ⌜ r ≡ accrualNumber accrual ⌝ }
@@ -102,8 +102,8 @@ pub fn fill_charges(
     amounts: &mut [i64],
 ) -> usize
     requires { ⌜ IsPlan (now book) plan ⌝ }
-    requires { ⌜ (length (now owners) ≡ 3000) × (length (now sources) ≡ 3000) × (length (now amounts) ≡ 3000) ⌝ }
-    ensures { λ r. ⌜ (r ≤ 3000) × AreCharges (now (book .entry)) (plan .assignments .count) (take r (now (owners .exit))) (now (sources .exit)) (now (amounts .exit)) ⌝ }
+    requires { ⌜ HasRoom plan (now owners) (now sources) (now amounts) ⌝ }
+    ensures { λ r. ⌜ (r ≡ plan .assignments .count + plan .expenses .count) × AreCharges (now (book .entry)) (plan .assignments .count) (take r (now (owners .exit))) (now (sources .exit)) (now (amounts .exit)) ⌝ }
 {
     let activities = plan.activities;
     let resources = plan.resources;

@@ -13,16 +13,16 @@ use borrow.Author.Needs.{needs}
 use Rattle.budget.proofs.schedule.schedule_in.Statement.{statement}
 use Rattle.budget.proofs.schedule.schedule_in.Tie as tie
 
-cost-columns-requires : tie.Need-cost-columns-requires
-cost-columns-requires c κs = search needs
+planned-costs-requires : tie.Need-planned-costs-requires
+planned-costs-requires c κs = search needs
 
 roll-up-requires : tie.Need-roll-up-requires
 roll-up-requires c κs = search needs
 
 leaf-sum-requires : tie.Need-leaf-sum-requires
 leaf-sum-requires c κs =
-    let s = c .before .before .before .before .before .before .before .before .before .before .before .before .before .before .before in
-    omega (arith, c .before .before .before .before .before .before .before .planned .given, s .pre .1 .1 .1 .0 .0, s .pre .1 .1 .0 .1, activities-most (s .pre .0))
+    let s = c .before .before .before .before .before .before .before .before .before .before .before in
+    omega (arith, c .before .before .before .before .before .planned .given, s .pre .1 .1 .1 .0, s .pre .1 .1 .0 .1, activities-most (s .pre .0))
 
 same-length : tie.Need-same-length
 same-length c = search needs
@@ -30,18 +30,12 @@ same-length c = search needs
 same-length-2 : tie.Need-same-length-2
 same-length-2 c = search needs
 
-same-length-3 : tie.Need-same-length-3
-same-length-3 c = search needs
-
-same-length-4 : tie.Need-same-length-4
-same-length-4 c = search needs
-
 returns : tie.Need-returns
 unfolding ownCost
 returns c =
-    let s = c .before .before .before .before .before .before .before .before .before .before .before .before .before .before .before .before in
+    let s = c .before .before .before .before .before .before .before .before .before .before .before .before in
     let book = content (s .args .book .now) in
-    let own = c .before .before .before .before .before .before .before .before .before .cost-columns .ensures .0 in (
+    let own = c .before .before .before .before .before .before .before .planned-costs .ensures in (
       c .before .before .before .roll-up .ensures ∙ ap (rolledUp (s .args .parents .now)) own ∙ rolled-costs (λ k. k .budget) (figures .0) book (s .args .parents .now) (s .pre .1 .0 .0),
       back w64 (c .leaf-sum .result) (c .leaf-sum .ok) ∙ c .leaf-sum .ensures ∙ ap (unmarkedSum (s .args .marks .now)) own ∙ leaf-costs (λ k. k .budget) (figures .0) book (s .args .marks .now) (s .pre .1 .1 .0 .0) refl,
     )
@@ -50,11 +44,9 @@ pub schedule-in-spec : {M : Type 1} → statement M
 schedule-in-spec =
     tie.close
     (tie.spec
-    cost-columns-requires
+    planned-costs-requires
     roll-up-requires
     leaf-sum-requires
     same-length
     same-length-2
-    same-length-3
-    same-length-4
     returns)

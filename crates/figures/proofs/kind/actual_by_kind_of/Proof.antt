@@ -5,7 +5,8 @@ use Rattle.book.proofs.Plan.{activities-most}
 use Rattle.answers.specs.Rows.{actualByKindRows}
 use Rattle.figures.proofs.Made.{kinds-size}
 use Rattle.answers.proofs.Replies.{nothing-asked}
-use Rattle.figures.proofs.Answering.{lending, kinds-lent, rows-short, rows-filled}
+use Rattle.earned.proofs.Lending.{lending}
+use Rattle.figures.proofs.Answering.{kinds-lent, rows-short, rows-filled}
 use Rattle.figures.proofs.kind.actual_by_kind_of.Statement.{statement}
 use Rattle.figures.proofs.kind.actual_by_kind_of.Tie as tie
 

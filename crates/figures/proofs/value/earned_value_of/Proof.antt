@@ -6,7 +6,8 @@ use Rattle.activities.proofs.Plans.{plan-leaves}
 use Rattle.answers.specs.Rows.{earnedValueRows}
 use Rattle.figures.proofs.Earning.{values-size}
 use Rattle.answers.proofs.Replies.{date-tested, date-refused}
-use Rattle.figures.proofs.Answering.{lending, five-lent, rows-short, rows-filled}
+use Rattle.earned.proofs.Lending.{lending}
+use Rattle.figures.proofs.Answering.{five-lent, rows-short, rows-none, rows-filled}
 use Rattle.figures.proofs.value.earned_value_of.Statement.{statement}
 use Rattle.figures.proofs.value.earned_value_of.Tie as tie
 
@@ -22,17 +23,23 @@ returns-2 c =
     let at = s .args .at in
     rows-short (s .pre .plan) (date-tested _ at (c .before .before .before .before .before .is-date .ensures) (c .before .before .before .before .if1 .left)) (earnedValueRows at) 6 (values-size at _) (s .args .out .now) (omega (arith, c .if2 .taken))
 
-fill-values-requires : tie.Need-fill-values-requires
-fill-values-requires c κs =
-    let s = c .before .before .before .before .before .before .before .before .before .before .before .before .before .before .before .before in
-    let marks = c .before .before .before .before .before .before .before .leaf-marks in
-    (s .pre, ((plan-leaves (s .pre .plan) (marks .result) (marks .ensures), search lending), (five-lent _ _ (activities-most (s .pre .plan)), length-take-le _ _ (omega (arith, c .before .before .before .before .before .before .before .before .if2 .left)))))
-
 returns-3 : tie.Need-returns-3
 returns-3 c =
-    let s = c .before .before .before .before .before .before .before .before .before .before .before .before .before .before .before .before .before .before .before .before .before .before .before .before in
+    let s = c .before .before .before .before .before .before .before .before .before in
     let at = s .args .at in
-    rows-filled (s .pre .plan) (date-tested _ at (c .before .before .before .before .before .before .before .before .before .before .before .before .before .before .before .before .before .before .before .before .before .is-date .ensures) (c .before .before .before .before .before .before .before .before .before .before .before .before .before .before .before .before .before .before .before .before .if1 .left)) (earnedValueRows at) 6 (values-size at _) (s .args .out .now) (omega (arith, c .before .before .before .before .before .before .before .before .before .before .before .before .before .before .before .before .if2 .left)) _ (c .before .before .before .before .before .before .before .fill-values .ensures)
+    rows-none (s .pre .plan) (date-tested _ at (c .before .before .before .before .before .before .is-date .ensures) (c .before .before .before .before .before .if1 .left)) (earnedValueRows at) 6 (values-size at _) (s .args .out .now) (c .if3 .taken)
+
+fill-values-requires : tie.Need-fill-values-requires
+fill-values-requires c κs =
+    let s = c .before .before .before .before .before .before .before .before .before .before .before .before .before .before .before .before .before in
+    let marks = c .before .before .before .before .before .before .before .leaf-marks in
+    (s .pre, ((plan-leaves (s .pre .plan) (marks .result) (marks .ensures), search lending), (five-lent _ _ (activities-most (s .pre .plan)), length-take-le _ _ (omega (arith, c .before .before .before .before .before .before .before .before .before .if2 .left)))))
+
+returns-4 : tie.Need-returns-4
+returns-4 c =
+    let s = c .before .before .before .before .before .before .before .before .before .before .before .before .before .before .before .before .before .before .before .before .before .before .before .before .before in
+    let at = s .args .at in
+    rows-filled (s .pre .plan) (date-tested _ at (c .before .before .before .before .before .before .before .before .before .before .before .before .before .before .before .before .before .before .before .before .before .before .is-date .ensures) (c .before .before .before .before .before .before .before .before .before .before .before .before .before .before .before .before .before .before .before .before .before .if1 .left)) (earnedValueRows at) 6 (values-size at _) (s .args .out .now) (omega (arith, c .before .before .before .before .before .before .before .before .before .before .before .before .before .before .before .before .before .if2 .left)) _ (c .before .before .before .before .before .before .before .fill-values .ensures)
 
 pub earned-value-of-spec : {M : Type 1} → statement M
 earned-value-of-spec =
@@ -42,6 +49,7 @@ earned-value-of-spec =
     returns
     mul-n
     returns-2
+    returns-3
     (λ c κs. tt)
     (λ c. search lending)
     (λ c. search lending)
@@ -58,4 +66,4 @@ earned-value-of-spec =
     (λ c. search lending)
     fill-values-requires
     (λ c. search lending)
-    returns-3)
+    returns-4)

@@ -1,11 +1,13 @@
 -- `fill_charges` meets its contract: the index of the resources' places, then the columns.
+use mathlib.Core.Path.{refl}
 use native.Mathlib.Omega.{arith}
 use lib.ListN.{replicate}
 use Rattle.format.specs.Book.{Assignment, Expense}
 use Rattle.format.specs.Enumeration.{accrualNumber}
-use Rattle.book.proofs.Plan.{resources-most, assignments-most, expenses-most}
+use Rattle.book.proofs.Plan.{resources-most}
 use Rattle.charges.specs.Assigned.{ownerOf, sourceOf}
-use Rattle.spending.proofs.Assigning.{charges-are, set-both}
+use Rattle.spending.proofs.Assigning.{charges-most, charges-are, set-both}
+use Rattle.spending.proofs.Pointing.{has-room}
 use borrow.Author.Needs.{needs}
 use Rattle.spending.proofs.columns.fill_charges.Statement.{statement}
 use Rattle.spending.proofs.columns.fill_charges.Tie as tie
@@ -19,19 +21,18 @@ slice-aggregate-fill-assignments c = search needs
 fill-assignments-requires : tie.Need-fill-assignments-requires
 fill-assignments-requires c κs =
     let s = c .before .before .before .before .before .before .before .before .before .before .before .before .before .before in
-    let most = assignments-most (s .pre .0 .is) in
-    (omega (arith, s .pre .1 .0), omega (arith, s .pre .1 .1), omega (arith, s .pre .1 .2))
+    let room = s .pre .1 in
+    (omega (arith, room .forOwners), omega (arith, room .forSources), omega (arith, room .forAmounts))
 
 fill-expenses-requires : tie.Need-fill-expenses-requires
 fill-expenses-requires c κs =
     let s = c .before .before .before .before .before .before .before .before .before .before .before .before .before .before .before .before .before .before .before .before .before .before .before in
     let k = c .before .before .before .before .before .before .before .before .fill-assignments .kept in
-    let most = assignments-most (s .pre .0 .is) in
-    let more = expenses-most (s .pre .0 .is) in
-    (omega (arith, s .pre .1 .0, k .1 .1 .1 .1 .1 .0), omega (arith, s .pre .1 .1, k .1 .1 .1 .1 .1 .1 .0), omega (arith, s .pre .1 .2, k .1 .1 .1 .1 .1 .1 .1 .0))
+    let room = s .pre .1 in
+    (has-room (k .1 .1 .1 .1 .1 .0) (room .forOwners), has-room (k .1 .1 .1 .1 .1 .1 .0) (room .forSources), has-room (k .1 .1 .1 .1 .1 .1 .1 .0) (room .forAmounts))
 
 add-result : tie.Need-add-result
-add-result c = let s = c .before .before .before .before .before .before .before .before .before .before .before .before .before .before .before .before .before .before .before .before .before .before .before .before .before .before .before .before .before .before in omega (arith, assignments-most (s .pre .0 .is), expenses-most (s .pre .0 .is))
+add-result c = let s = c .before .before .before .before .before .before .before .before .before .before .before .before .before .before .before .before .before .before .before .before .before .before .before .before .before .before .before .before .before .before in omega (arith, charges-most (s .pre .0 .is))
 
 same-length : tie.Need-same-length
 same-length c = search needs
@@ -51,15 +52,12 @@ returns c =
     let e = c .before .before .before .before .before .before .fill-expenses in
     let places = index .last .1 .1 .1 .0 in
     let count = s .args .plan .assignments .count in
-    let most = assignments-most p in
-    let more = expenses-most p in
     let is = charges-are p (replicate 200 0) places (omega (arith, resources-most p)) (index .ensures)
-    (s .args .owners .now) (s .args .sources .now) (s .args .amounts .now) (e .last .1 .1 .1 .1 .0) (e .last .1 .1 .1 .1 .1 .0) (e .last .1 .1 .1 .1 .1 .1 .0)
-    (omega (arith, s .pre .1 .0)) (omega (arith, s .pre .1 .1)) (omega (arith, s .pre .1 .2))
+    (s .pre .1)
     (set-both ownerOf (λ (x : Expense). x .activity) (s .args .owners .now) count (p .assignments .listed) (p .expenses .listed) (a .ensures .0) (e .ensures .0))
     (set-both (sourceOf places) (λ (x : Expense). accrualNumber (x .accrual)) (s .args .sources .now) count (p .assignments .listed) (p .expenses .listed) (a .ensures .1 .0) (e .ensures .1 .0))
     (set-both (λ (x : Assignment). x .planned) (λ (x : Expense). x .planned) (s .args .amounts .now) count (p .assignments .listed) (p .expenses .listed) (a .ensures .1 .1) (e .ensures .1 .1)) in
-    (omega arith, is)
+    (refl, is)
 
 pub fill-charges-spec : {M : Type 1} → statement M
 fill-charges-spec =

@@ -3,9 +3,9 @@ use borrow.Author.Needs.{needs}
 use mathlib.Core.Path.{_∙_}
 use mir.Syntax.{w64}
 use Rattle.integer.specs.Linear.{back}
-use Rattle.outlook.proofs.Outlook.{earned-sum}
-use Rattle.outlook.proofs.project.sums.Statement.{statement}
-use Rattle.outlook.proofs.project.sums.Tie as tie
+use Rattle.figures.proofs.Earning.{earned-sum}
+use Rattle.figures.proofs.project.sums.Statement.{statement}
+use Rattle.figures.proofs.project.sums.Tie as tie
 
 leaf-sum-requires : tie.Need-leaf-sum-requires
 leaf-sum-requires c κs = search needs

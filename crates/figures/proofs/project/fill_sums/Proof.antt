@@ -4,8 +4,8 @@ use native.Mathlib.Omega.{arith}
 use mathlib.Core.Path.{refl, sym, _∙_}
 use Rattle.format.specs.Verdict.{content}
 use Rattle.book.proofs.Plan.{activities-most}
-use Rattle.outlook.proofs.project.fill_sums.Statement.{statement}
-use Rattle.outlook.proofs.project.fill_sums.Tie as tie
+use Rattle.figures.proofs.project.fill_sums.Statement.{statement}
+use Rattle.figures.proofs.project.fill_sums.Tie as tie
 
 fill-own-requires : tie.Need-fill-own-requires
 fill-own-requires c κs = search needs
