@@ -4,3 +4,4 @@ pub mod Days
 pub mod Threes
 pub mod Leaves
 pub mod Plans
+pub mod Lending

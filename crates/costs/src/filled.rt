@@ -52,16 +52,22 @@ pub fn charge_columns(
     ensures two { λ r. ⌜ now (two .exit) ≡ chargedAfresh (content (now (book .entry))) (tasks .two) (now (two .entry)) ⌝ }
     ensures three { λ r. ⌜ now (three .exit) ≡ chargedAfresh (content (now (book .entry))) (tasks .three) (now (three .entry)) ⌝ }
 {
-    let calendars = plan.calendars;
-    let activities = plan.activities;
     clear(one);
     clear(two);
     clear(three);
-    fill_ways(book, activities, calendars.count, date, named, first, last);
+    fill_ways(
+        book,
+        plan.activities,
+        plan.calendars.count,
+        date,
+        named,
+        first,
+        last,
+    );
     fill_assigned(book, date, plan, owners, sources, units);
     charge_stretch(
         tasks,
-        calendars,
+        plan.calendars,
         book,
         owners,
         sources,

@@ -13,6 +13,7 @@ pub mod filled;
 pub mod kinds;
 pub mod own;
 pub mod stretched;
+pub mod threes;
 pub mod units;
 
 // What an assignment is charged for: its cost by date, or, where its resource is of a kind, its cost as one amount.

@@ -1,5 +1,6 @@
 // The actual units of the assignments of a kind of resource, whatever days their activities have.
 use crate::kinds::same_kind;
+use crate::threes::units_at;
 use format::ResourceKind;
 use money::sums::saturating_add;
 use prices::resources::kind_at;
@@ -31,7 +32,7 @@ fn add_units(
     }
     let place = sources[k] as usize;
     if same_kind(kind, kind_at(book, place)) {
-        let amount = units[k * 3 + 1];
+        let amount = units_at(units, k, 1);
         let sum = sums[a];
         sums[a] = saturating_add(sum, amount);
     }

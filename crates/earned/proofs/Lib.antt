@@ -2,4 +2,3 @@ pub mod Entries
 pub mod Lines
 pub mod Baselines
 pub mod Own
-pub mod Lending

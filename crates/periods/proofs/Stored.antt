@@ -8,7 +8,6 @@ use lib.Dec.{eqb, leb}
 use lib.IntN.{ℤ, pos}
 use lib.ListN.{length, take, replicate, length-map, length-replicate}
 use lib.Seq.{length-take-le}
-use borrow.Author.Needs.{needs}
 use borrow.Author.Tests.{ne-eqb, lt-leb}
 use Rattle.format.specs.Book.{Activity, PeriodRecord, Book}
 use Rattle.format.specs.InRange.{InRange, Limits, PeriodRecordInRange}
@@ -45,9 +44,6 @@ counted-close true x date h = and-true (leb x date)
 counted-close false x date h = lt-leb never date h ∙ and-false (leb x date)
 
 -- ---- columns of records
-
--- an array's lent part is as long as there are records
-pub ruleset lending = (needs, length-take-le)
 
 -- parts of arrays with room for k records
 pub parts-long : (k n : ℕ) → n ≤ k → Long n (take n (replicate k 0)) (take n (replicate k 0)) (take n (replicate k (pos 0))) (take n (replicate k (pos 0)))

@@ -2,7 +2,7 @@
 use lib.Seq.{length-take-le}
 use Rattle.book.proofs.Plan.{activities-most}
 use Rattle.activities.proofs.Plans.{plan-leaves}
-use Rattle.earned.proofs.Lending.{lending}
+use Rattle.activities.proofs.Lending.{lending}
 use Rattle.curve.proofs.curve_rows.Statement.{statement}
 use Rattle.curve.proofs.curve_rows.Tie as tie
 

@@ -1,12 +1,9 @@
 -- `schedule` meets its contract: a column of as many entries as there are activities.
 use lib.Seq.{length-take-le}
-use borrow.Author.Needs.{needs}
 use Rattle.book.proofs.Plan.{activities-most}
+use Rattle.activities.proofs.Lending.{lending}
 use Rattle.budget.proofs.schedule.schedule.Statement.{statement}
 use Rattle.budget.proofs.schedule.schedule.Tie as tie
-
--- an array of 500 has room for each activity, and its lent part has their count
-ruleset lending = (needs, activities-most, length-take-le)
 
 schedule-in-requires : tie.Need-schedule-in-requires
 schedule-in-requires c κs =

@@ -10,10 +10,10 @@ actual-units-requires-2 : tie.Need-actual-units-requires-2
 actual-units-requires-2 c κs = search needs
 
 same-length : tie.Need-same-length
-same-length c = search needs
+same-length c = c .before .before .before .labor .given
 
 same-length-2 : tie.Need-same-length-2
-same-length-2 c = search needs
+same-length-2 c = c .nonlabor .given
 
 returns : tie.Need-returns
 returns c = search needs

@@ -37,20 +37,8 @@ mul-place c = search needs
 shared-slice-read-place : tie.Need-shared-slice-read-place
 shared-slice-read-place c = search needs
 
-mul-amount : tie.Need-mul-amount
-mul-amount c = search needs
-
-add-amount : tie.Need-add-amount
-add-amount c = search needs
-
-mul-amount-2 : tie.Need-mul-amount-2
-mul-amount-2 c =
-    let s = c .before .before .before .before .before .before .before .before .before in
-    let h : s .args .k * 3 + 1 < length (s .args .units .now) = omega (arith, s .pre .0 .0, units-long (s .pre .0 .1)) in
-    search needs
-
-shared-slice-copy-out-amount : tie.Need-shared-slice-copy-out-amount
-shared-slice-copy-out-amount c =
+units-at-requires : tie.Need-units-at-requires
+units-at-requires c κs =
     let s = c .before .before .before .before .before .before .before .before .before in
     omega (arith, s .pre .0 .0, units-long (s .pre .0 .1))
 
@@ -63,8 +51,8 @@ slice-copy-out-sum c = search needs
 saturating-add-requires : tie.Need-saturating-add-requires
 saturating-add-requires c κs = search needs
 
-mul-t21 : tie.Need-mul-t21
-mul-t21 c = search needs
+mul-t19 : tie.Need-mul-t19
+mul-t19 c = search needs
 
 slice-set-from-sums : tie.Need-slice-set-from-sums
 slice-set-from-sums c = search needs
@@ -83,7 +71,7 @@ returns-2 c =
     let sums = s .args .sums .now in
     let g = entry-given are k (s .pre .0 .0) (omega (arith, c .before .before .before .before .before .before .before .if1 .left, s .pre .1)) in
     let same = sym (c .before .before .before .before .same-kind .ensures ∙ ap (sameKind (s .args .kind)) (c .before .before .before .before .before .kind-at .ensures ∙ sym (ap (λ (r : Resource). r .kind) (are .placed k (g .0) (s .pre .0 .0) (g .1))))) ∙ c .before .before .before .if2 .taken in
-    let amount : seen w64 (getD (s .args .units .now) (k * 3 + 1) (pos 0)) ≡ x .actual = back w64 _ (c .before .before .amount .given) ∙ entry-units are k (s .pre .0 .0) Actual in
+    let amount : seen w64 (c .before .before .units-at .result) ≡ x .actual = back w64 (c .before .before .units-at .result) (c .before .before .units-at .ok) ∙ c .before .before .units-at .ensures ∙ entry-units are k (s .pre .0 .0) Actual in
     ap (set sums a)
     (back w64 (c .saturating-add .result) (c .saturating-add .ok)
     ∙ c .saturating-add .ensures
@@ -112,14 +100,11 @@ add-units-spec =
     shared-slice-read-place
     (λ c κs. tt)
     (λ c κs. tt)
-    mul-amount
-    add-amount
-    mul-amount-2
-    shared-slice-copy-out-amount
+    units-at-requires
     mul-sum
     slice-copy-out-sum
     saturating-add-requires
-    mul-t21
+    mul-t19
     slice-set-from-sums
     same-length
     returns-2

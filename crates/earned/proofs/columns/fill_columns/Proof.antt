@@ -1,7 +1,7 @@
 -- `fill_columns` meets its contract: the columns of the lines are as long as the book has activities.
 use lib.Seq.{length-take-le}
 use Rattle.book.proofs.Plan.{activities-most}
-use Rattle.earned.proofs.Lending.{lending}
+use Rattle.activities.proofs.Lending.{lending}
 use Rattle.earned.proofs.columns.fill_columns.Statement.{statement}
 use Rattle.earned.proofs.columns.fill_columns.Tie as tie
 

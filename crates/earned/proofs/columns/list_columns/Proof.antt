@@ -1,7 +1,7 @@
 -- `list_columns` meets its contract: the column of costs is as long as the book has activities.
 use lib.Seq.{length-take-le}
 use Rattle.book.proofs.Plan.{activities-most}
-use Rattle.earned.proofs.Lending.{lending}
+use Rattle.activities.proofs.Lending.{lending}
 use Rattle.earned.proofs.columns.list_columns.Statement.{statement}
 use Rattle.earned.proofs.columns.list_columns.Tie as tie
 

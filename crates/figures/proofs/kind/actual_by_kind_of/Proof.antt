@@ -5,7 +5,7 @@ use Rattle.book.proofs.Plan.{activities-most}
 use Rattle.answers.specs.Rows.{actualByKindRows}
 use Rattle.figures.proofs.Made.{kinds-size}
 use Rattle.answers.proofs.Replies.{nothing-asked}
-use Rattle.earned.proofs.Lending.{lending}
+use Rattle.activities.proofs.Lending.{lending}
 use Rattle.figures.proofs.Answering.{kinds-lent, rows-short, rows-filled}
 use Rattle.figures.proofs.kind.actual_by_kind_of.Statement.{statement}
 use Rattle.figures.proofs.kind.actual_by_kind_of.Tie as tie

@@ -2,7 +2,7 @@
 use native.Mathlib.Omega.{arith}
 use lib.Seq.{length-take-le}
 use Rattle.book.proofs.Plan.{activities-most}
-use Rattle.earned.proofs.Lending.{lending}
+use Rattle.activities.proofs.Lending.{lending}
 use Rattle.figures.proofs.own.fill_own.Statement.{statement}
 use Rattle.figures.proofs.own.fill_own.Tie as tie
 

@@ -1,7 +1,7 @@
 -- `fill_planned` meets its contract: the columns between are as long as the book has activities.
 use lib.Seq.{length-take-le}
 use Rattle.book.proofs.Plan.{activities-most}
-use Rattle.earned.proofs.Lending.{lending}
+use Rattle.activities.proofs.Lending.{lending}
 use Rattle.figures.proofs.own.fill_planned.Statement.{statement}
 use Rattle.figures.proofs.own.fill_planned.Tie as tie
 

@@ -4,7 +4,7 @@ use Rattle.format.specs.Verdict.{content}
 use Rattle.book.proofs.Plan.{activities-count, activities-most}
 use Rattle.activities.proofs.Plans.{plan-leaves}
 use Rattle.answers.proofs.Nothing.{nothing-earned}
-use Rattle.earned.proofs.Lending.{lending}
+use Rattle.activities.proofs.Lending.{lending}
 use Rattle.figures.proofs.Answering.{five-lent}
 use Rattle.figures.proofs.project.project_earned.Statement.{statement}
 use Rattle.figures.proofs.project.project_earned.Tie as tie

@@ -6,7 +6,7 @@ use Rattle.activities.proofs.Plans.{plan-leaves}
 use Rattle.answers.specs.Rows.{earnedValueRows}
 use Rattle.figures.proofs.Earning.{values-size}
 use Rattle.answers.proofs.Replies.{date-tested, date-refused}
-use Rattle.earned.proofs.Lending.{lending}
+use Rattle.activities.proofs.Lending.{lending}
 use Rattle.figures.proofs.Answering.{five-lent, rows-short, rows-none, rows-filled}
 use Rattle.figures.proofs.value.earned_value_of.Statement.{statement}
 use Rattle.figures.proofs.value.earned_value_of.Tie as tie

@@ -1,7 +1,7 @@
 -- `put_all` meets its contract: the columns between are as long as the book has activities.
 use lib.Seq.{length-take-le}
 use Rattle.book.proofs.Plan.{activities-most}
-use Rattle.earned.proofs.Lending.{lending}
+use Rattle.activities.proofs.Lending.{lending}
 use Rattle.figures.proofs.value.put_all.Statement.{statement}
 use Rattle.figures.proofs.value.put_all.Tie as tie
 
