@@ -1,7 +1,7 @@
 -- The three ways side by side: an entry, what holds of every entry, and what a loop keeps that sets the entries of one element a turn.
 use Prim.Native.Nat.{ℕ, zero, suc, _+_, _*_, _-_, _≤_, _<_}
 use native.Mathlib.Omega.{arith}
-use mathlib.Core.Path.{_≡_, refl, ap, sym, _∙_}
+use mathlib.Core.Path.{_≡_, refl, ap, _∙_}
 use mathlib.Core.List.{List, [], _∷_, append-nil}
 use lib.ListN.{length, getD, set}
 use lib.Seq.{sets, sets-eq, length-sets, drop-length}

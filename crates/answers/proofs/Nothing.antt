@@ -7,11 +7,10 @@ use lib.IntN.{pos}
 use lib.ListN.{length}
 use Rattle.format.specs.Book.{Activity, Book}
 use Rattle.holidays.specs.Holiday.{any}
-use Rattle.model.specs.declared.Earned.{Earned}
 use Rattle.model.specs.Lists.{span, keep}
 use Rattle.model.specs.Days.{datesBetween}
 use Rattle.model.specs.Amounts.{Dated, isBetween, isCharged, pointsBetween, lastDay, points}
-use Rattle.model.specs.Tree.{Parents, parents, leaves}
+use Rattle.model.specs.Tree.{parents, leaves}
 use Rattle.model.specs.Planned.{plannedAmounts, plannedByDay, running, plannedCurve, plannedCurveBetween}
 use Rattle.model.specs.Earned.{noEarned, addEarned, earnedAt, projectEarned}
 use Rattle.spending.specs.Rows.{pointRow}

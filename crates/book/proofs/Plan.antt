@@ -105,10 +105,6 @@ module _ (s : List ℕ) (r : Layout) (l : IsLayout s r) where
 -- ---- counts
 
 -- the lines of a baseline that may be absent
-lines-most : (n : ℕ) (o : Option (List BaselineLine)) → Given (BaselineInRange n) o → length (Option·getD o []) ≤ 1000
-lines-most n none h = omega arith
-lines-most n (some l) h = h .most
-
 lines-range : (n : ℕ) (o : Option (List BaselineLine)) → Given (BaselineInRange n) o → Every (BaselineLineInRange n) (Option·getD o [])
 lines-range n none h = λ k d l. absurd (omega arith)
 lines-range n (some l) h = h .lines
@@ -150,9 +146,6 @@ module _ {s : List ℕ} {date : OptionalNumber} {plan : Plan} (p : IsPlanOf s da
   pub expenses-most : plan .expenses .count ≤ 1000
   expenses-most = rw expenses-count at (content-limits s (p .accepted) .expenses)
 
-  pub lines-count : length (Option·getD (content s .baseline) []) ≤ 1000
-  lines-count = lines-most _ (content s .baseline) (content-in-range s (p .accepted) .baseline)
-
   -- ---- ranges, with the plan's counts
 
   pub activities-in-range : Every (ActivityInRange (plan .calendars .count) (plan .activities .count)) (content s .activities)
@@ -191,15 +184,6 @@ module _ {s : List ℕ} {date : OptionalNumber} {plan : Plan} (p : IsPlanOf s da
 
     pub records-count : length (content s .records) ≡ ledger .records .count
     records-count = ap length (l .records) ∙ alike-length _ s (ledger .records)
-
-    pub budgets-most : ledger .budgets .count ≤ 501
-    budgets-most = rw budgets-count at (content-limits s (p .accepted) .budgets)
-
-    pub log-most : ledger .log .count ≤ 500
-    log-most = rw log-count at (content-limits s (p .accepted) .log)
-
-    pub funds-most : ledger .funds .count ≤ 100
-    funds-most = rw funds-count at (content-limits s (p .accepted) .funds)
 
     pub periods-most : ledger .periods .count ≤ 240
     periods-most = rw periods-count at (content-limits s (p .accepted) .periods)

@@ -2,14 +2,13 @@
 use Prim.Native.Nat.{ℕ, suc, _+_, _-_, _≤_, _<_}
 use native.Mathlib.Nat.{sub-zero}
 use native.Mathlib.Omega.{arith}
-use mathlib.Core.Path.{_≡_, refl, sym, ap, _∙_, subst}
+use mathlib.Core.Path.{_≡_, refl, sym, ap, _∙_}
 use mathlib.Core.List.{List, [], _∷_, foldl}
-use lib.ListN.{length, getD, drop, length-drop}
-use lib.Seq.{drop-drop, getD-drop}
+use lib.ListN.{drop}
+use lib.Seq.{drop-drop}
 use Rattle.format.specs.declared.Pos.{Pos}
 use Rattle.format.specs.Reader.{many}
 use Rattle.format.specs.Codec.{Codec, times}
-use Rattle.format.specs.InRange.{Every}
 use Rattle.book.specs.declared.Section.{Section}
 use Rattle.book.specs.Sections.{elements}
 
@@ -47,18 +46,6 @@ module _
       -- what is read, and then the rest
       pub reading-next : drop i all ≡ v ∷ drop (i + 1) all
       reading-next = ahead ∙ ap (λ (l : List A). v ∷ l) (sym further)
-
-      inside : i < length all
-      inside = omega (arith, length-drop i all, ap length ahead)
-
-      -- it is element i
-      at : (d : A) → getD all i d ≡ v
-      at d =
-          let z : i + 0 ≡ i = omega arith in
-          sym (ap (λ (k : ℕ). getD all k d) z) ∙ sym (getD-drop i all 0 d) ∙ ap (λ (l : List A). getD l 0 d) ahead
-
-      pub reading-every : (P : A → Type 0) → Every P all → P v
-      reading-every P p = subst P (at v) (p i v inside)
 
 -- ---- what is made of the elements, one after the other
 

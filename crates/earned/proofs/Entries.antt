@@ -58,14 +58,6 @@ module _ {A : Type 0} {d : A} {f : ℕ → A} {t₀ : List A} {i : ℕ} {t : Lis
       go room j k (yes b) = getD-set-other t i j v d (λ q. absurd (omega arith)) ∙ w .done j b
       go room j k (no b) = let same : j ≡ i = omega arith in rw same (getD-set-same t i v d room ∙ g)
 
-  -- a turn that leaves the entry
-  pub entered-kept : getD t₀ i d ≡ f i → Entered d f t₀ (i + 1) t
-  entered-kept g = record { long = w .long; done = λ j k. go j k (decLt j i); left = λ j k. w .left j (omega arith) }
-    where
-      go : (j : ℕ) → j < i + 1 → Dec (j < i) → getD t j d ≡ f j
-      go j k (yes b) = w .done j b
-      go j k (no b) = let same : j ≡ i = omega arith in rw same (w .left i (omega arith) ∙ g)
-
   pub entered-end : {n : ℕ} → length t₀ ≡ n → n ≤ i → t ≡ map f (span 0 n)
   entered-end {n} l h = entries-are f d t n (w .long ∙ l) (λ j k. w .done j (omega arith))
 

@@ -4,7 +4,7 @@ use native.Mathlib.Nat.{not-suc-le-zero, le-of-suc-le-suc}
 use native.Mathlib.Numerals.{add-one}
 use native.Mathlib.Omega.{arith}
 use mathlib.Core.Path.{_≡_, refl, ap, sym, _∙_}
-use mathlib.Core.List.{List, _∷_, foldl, map}
+use mathlib.Core.List.{List, _∷_, map}
 use lib.ListN.{length, getD, set, length-set, List·getD-map}
 use lib.Seq.{sets}
 use Rattle.format.specs.declared.Pos.{Pos}
@@ -34,44 +34,8 @@ module _ {S A : Type 0} (read : S → A) (next : A → S) (n i : ℕ) (c : S) (h
 
 -- ---- what a loop keeps
 
-module _ {S A : Type 0} where
-  -- i of the n records from c on are read, and the next one begins at p
-  pub record Walked (read : S → A) (next : A → S) (n : ℕ) (c : S) (i : ℕ) (p : S) : Type 0 where
-    pub most : i ≤ n
-    pub rest : after read next (n - i) p ≡ after read next n c
-
-  pub walk-none : (read : S → A) (next : A → S) (n : ℕ) (c : S) → Walked read next n c 0 c
-  walk-none read next n c = record { most = omega arith; rest = let e : n - 0 ≡ n = omega arith in rw e }
-
-  module _ {read : S → A} {next : A → S} {n : ℕ} {c : S} {i : ℕ} {p : S} (w : Walked read next n c i p) where
-    pub walk-more : i < n → (a : A) → a ≡ read p → Walked read next n c (i + 1) (next a)
-    walk-more h a e = record { most = omega arith; rest = rw e (sym (after-more read next n i p h) ∙ w .rest) }
-
-    pub walk-end : n ≤ i → p ≡ after read next n c
-    unfolding after
-    walk-end h = let e : n - i ≡ 0 = omega arith in rw e at (w .rest)
-
-module _ {S A B : Type 0} where
-  -- the same, where each record changes a value by f: b₀ at first, b now
-  pub record Folded (f : B → A → B) (read : S → A) (next : A → S) (n : ℕ) (c : S) (b₀ : B) (i : ℕ) (p : S) (b : B) : Type 0 where
-    pub most : i ≤ n
-    pub rest : foldl f b (records read next (n - i) p) ≡ foldl f b₀ (records read next n c)
-
-  pub fold-none : (f : B → A → B) (read : S → A) (next : A → S) (n : ℕ) (c : S) (b : B) → Folded f read next n c b 0 c b
-  fold-none f read next n c b = record { most = omega arith; rest = let e : n - 0 ≡ n = omega arith in rw e }
-
-  module _
-      {f : B → A → B} {read : S → A} {next : A → S} {n : ℕ} {c : S} {b₀ : B} {i : ℕ} {p : S} {b : B} (w : Folded f read next n c b₀ i p b)
-    where
-      pub fold-more : i < n → (a : A) → a ≡ read p → (b′ : B) → b′ ≡ f b a → Folded f read next n c b₀ (i + 1) (next a) b′
-      fold-more h a e b′ q = record { most = omega arith; rest = rw (q, e) (sym (rw (records-more read next n i p h) refl) ∙ w .rest) }
-
-      pub fold-end : n ≤ i → b ≡ foldl f b₀ (records read next n c)
-      unfolding records
-      fold-end h = let e : n - i ≡ 0 = omega arith in rw e at (w .rest)
-
 module _ {A : Type 0} where
-  -- the same, where the place of each record is set in a table: t₀ at first, t now
+  -- i of the n records from c on are read, the next one begins at p, and the place of each is set in a table: t₀ at first, t now
   pub record Indexed (read : Pos → A) (next : A → Pos) (n : ℕ) (c : Pos) (t₀ : List ℕ) (i : ℕ) (p : Pos) (t : List ℕ) : Type 0 where
     pub most : i ≤ n
     pub long : length t ≡ length t₀

@@ -1,15 +1,12 @@
 -- Sums that saturate at each step, from the left; and where they are exact. Assumes nothing.
 use mathlib.Core.Path.{_≡_, refl, sym, ap, _∙_}
 use mathlib.Core.List.{List, [], _∷_, _++_}
-use Prim.Native.Nat.{ℕ, _+_, _≤_, _<_}
-use native.Mathlib.Numerals.{add-one}
+use Prim.Native.Nat.{ℕ, _+_, _≤_}
 use native.Mathlib.Omega.{arith}
-use lib.ListN.{length, getD, drop, drop-of-length-le}
-use lib.Seq.{drop-cons}
 use lib.IntN.{ℤ, pos, natAbs, _+ℤ_, +ℤ-assoc, +ℤ-idl, +ℤ-idr}
 use mir.Syntax.{Width}
 use Rattle.integer.specs.Clamp.{most, clamp, clamp-small}
-use Rattle.integer.specs.Sums.{ints, nats, total, abs-plus}
+use Rattle.integer.specs.Sums.{ints, total, abs-plus}
 
 -- s and then each number of the list, clamped at each step
 unfoldable pub saturated : Width → ℤ → List ℤ → ℤ
@@ -22,15 +19,6 @@ magnitudes [] = 0
 magnitudes (x ∷ xs) = natAbs x + magnitudes xs
 
 module _ (w : Width) where
-  -- ---- one after the other, as a loop goes
-  pub saturated-next : (s : ℤ) (xs : List ℤ) (i : ℕ) → i < length xs → saturated w s (drop i xs) ≡ saturated w (clamp w (s +ℤ getD xs i (pos 0))) (drop (i + 1) xs)
-  unfolding saturated
-  saturated-next s xs i h = rw (add-one, drop-cons xs i (pos 0))
-
-  pub saturated-end : (s : ℤ) (xs : List ℤ) (i : ℕ) → length xs ≤ i → saturated w s (drop i xs) ≡ s
-  unfolding saturated
-  saturated-end s xs i h = rw (drop-of-length-le xs {i = i} h)
-
   pub saturated-append : (s : ℤ) (xs ys : List ℤ) → saturated w s (xs ++ ys) ≡ saturated w (saturated w s xs) ys
   unfolding saturated
   saturated-append s [] ys = refl

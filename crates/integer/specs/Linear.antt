@@ -1,7 +1,7 @@
 -- Linear facts on ℤ for `omega`, over any width: each z is plus z − minus z, two naturals of which one is 0.
 -- The ruleset `linear` reads equations, orders, ranges and tests of ℤ; each operation in a goal wants its fact in the list
 -- (`sum a b`, `dif a b`, `abs z`, `within` a range). Assumes nothing.
-use mathlib.Core.Path.{_≡_, refl, sym, ap, _∙_, subst}
+use mathlib.Core.Path.{_≡_, refl, sym, ap, subst}
 use mathlib.Core.Bool.{Bool, true, false, not, cond}
 use Prim.Native.Nat.{ℕ, zero, suc, _+_, _-_, _≤_, _<_, _^_, min, max, zero-le}
 use native.Mathlib.Omega.{arith}

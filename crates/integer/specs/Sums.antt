@@ -67,10 +67,6 @@ module _ {A : Type 0} (m : Adds A) where
   sum-swap f zero c = sym (sum-none (λ i. m .unit) c (λ i l. refl))
   sum-swap f (suc r) c = ap (λ (z : A). m .op z (sum m (f r) c)) (sum-swap f r c) ∙ sym (sum-both (λ j. sum m (λ i. f i j) r) (f r) c)
 
-  pub sum-only : (t : Bool) (f : ℕ → A) (k : ℕ) → sum m (λ i. only m t (f i)) k ≡ only m t (sum m f k)
-  sum-only true f k = refl
-  sum-only false f k = sum-none (λ i. m .unit) k (λ i l. refl)
-
   -- one summand of k
   pub sum-hot : (d : ℕ) (v : A) (k : ℕ) → sum m (λ e. only m (eqb d e) v) k ≡ only m (ltb d k) v
   unfolding sum
@@ -99,17 +95,6 @@ pub abs-sum : (f : ℕ → ℤ) (k : ℕ) → natAbs (sum ints f k) ≤ sum nats
 unfolding sum
 abs-sum f zero = zero-le
 abs-sum f (suc k) = omega (arith, abs-sum f k, abs-plus (sum ints f k) (f k))
-
-pub only-abs : (c : Bool) (v : ℤ) → natAbs (only ints c v) ≡ only nats c (natAbs v)
-only-abs true v = refl
-only-abs false v = refl
-
-pub abs-only : (t : ℕ → Bool) (f : ℕ → ℤ) (k : ℕ) → natAbs (sum ints (λ i. only ints (t i) (f i)) k) ≤ sum nats (λ i. only nats (t i) (natAbs (f i))) k
-abs-only t f k = omega (arith, abs-sum (λ i. only ints (t i) (f i)) k, sum-cong nats (λ i. natAbs (only ints (t i) (f i))) (λ i. only nats (t i) (natAbs (f i))) k (λ i l. only-abs (t i) (f i)))
-
-pub only-less : (c : Bool) (v : ℕ) → only nats c v ≤ v
-only-less true v = omega arith
-only-less false v = zero-le
 
 pub sum-term : (f : ℕ → ℕ) (k i : ℕ) → i < k → f i ≤ sum nats f k
 unfolding sum

@@ -12,7 +12,7 @@ use Rattle.format.specs.declared.Status.the-variants.{NotStarted}
 use Rattle.format.specs.declared.EvTechnique.the-variants.{Physical}
 use Rattle.format.specs.declared.EtcTechnique.{EtcTechnique}
 use Rattle.format.specs.declared.EtcTechnique.the-variants.{Remaining, Planned, Cpi, CpiSpi}
-use Rattle.format.specs.declared.ChangeStatus.the-variants.{Pending, Approved, NotApproved}
+use Rattle.format.specs.declared.ChangeStatus.the-variants.{Pending, NotApproved}
 use Rattle.format.specs.declared.Region.the-variants.{None}
 use Rattle.format.specs.Enumeration.{changeStatusNumber}
 use Rattle.format.specs.Book.{Calendar, Activity, BaselineLine, Budget, BudgetChange, PeriodRecord, Book}
@@ -21,9 +21,9 @@ use Rattle.model.specs.declared.Earned.{Earned}
 use Rattle.model.specs.Lists.{span, keep}
 use Rattle.model.specs.Calendar.{isWorking, exceptionOn, usuallyWorks, isRegionHoliday, worksOn}
 use Rattle.model.specs.Tree.{parents, isLeaf, steps, walk, stepsMade}
-use Rattle.model.specs.Forecast.{cpi, spi, toEarn, etc, eac, vac}
+use Rattle.model.specs.Forecast.{cpi, spi, toEarn, etc}
 use Rattle.model.specs.Variances.{workingUpTo, workingBetween, lastAmong}
-use Rattle.model.specs.Budgets.{Owner, budgetFor, changes, currentOf, proposedOf, hasLine, lineOwners, distributedOf, depthOf, funded, notCovered}
+use Rattle.model.specs.Budgets.{budgetFor, changes, currentOf, proposedOf, hasLine, lineOwners, distributedOf, depthOf, funded, notCovered}
 use Rattle.model.specs.Periods.{actualIn, isStored, recordsToDate, toDate}
 use Rattle.model.proofs.Calendar.{weekday-is}
 

@@ -3,8 +3,7 @@ use Prim.Native.Nat.{_≤_}
 use mathlib.Core.Path.{_≡_}
 use lib.IntN.{ℤ, natAbs, _+ℤ_, _-ℤ_}
 use mir.Syntax.{w64}
-use mir.Val.{SFits}
-use Rattle.integer.specs.Clamp.{clamp, clamp-fits, clamp-small, most}
+use Rattle.integer.specs.Clamp.{clamp-small, most}
 use Rattle.format.specs.declared.EtcTechnique.{EtcTechnique}
 use Rattle.model.specs.declared.Earned.{Earned}
 use Rattle.model.specs.Forecast.{etc, eac, vac}

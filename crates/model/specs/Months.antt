@@ -12,6 +12,10 @@ use Rattle.model.specs.Costs.{spending}
 unfoldable pub monthStart : ℕ → ℕ
 monthStart date = date + 1 - civil (dayCount (pos date)) .day
 
+-- an amount, put on the first day of its month
+abbrev pub inMonth : Dated → Dated
+inMonth x = on (monthStart (x .day)) (x .amount)
+
 -- each month that has a point, and what falls on its days, added up in date order
 unfoldable pub spendingByMonth : Book → List Dated
-spendingByMonth book = points (map (λ (x : Dated). on (monthStart (x .day)) (x .amount)) (spending book))
+spendingByMonth book = points (map inMonth (spending book))

@@ -4,12 +4,10 @@ use mathlib.Core.Bool.{cond}
 use mathlib.Core.List.{List, [], _∷_, map}
 use mathlib.Core.Option.{Option, none, some, Option·getD, orElse}
 use lib.Dec.{eqb}
-use lib.IntN.{ℤ, pos, _+ℤ_, _-ℤ_}
+use lib.IntN.{ℤ, pos, _-ℤ_}
 use lib.ListN.{length}
-use mir.Syntax.{w64}
-use Rattle.integer.specs.Clamp.{clamp}
-use Rattle.format.specs.Book.{Calendar, Activity, BaselineLine, Book}
-use Rattle.money.specs.declared.costs.Cost.{Cost}
+use Rattle.format.specs.Book.{Calendar, BaselineLine, Book}
+use Rattle.money.specs.Costs.{completionOf}
 use Rattle.model.specs.Lists.{span, keep}
 use Rattle.model.specs.Lookup.{activityAt}
 use Rattle.model.specs.Calendar.{isWorking, calendarOf}
@@ -41,16 +39,12 @@ lastAmong (l ∷ ls) i = orElse (lastAmong ls i) (cond (eqb (l .activity) i) (so
 unfoldable pub lastLine : Book → ℕ → Option BaselineLine
 lastLine book i = lastAmong (Option·getD (book .baseline) []) i
 
--- the cost at completion: spent and still to spend
-unfoldable pub atCompletion : Cost → ℤ
-atCompletion c = clamp w64 (c .actual +ℤ c .remaining)
-
 unfoldable pub varianceFrom : Book → ℕ → BaselineLine → Variance
 varianceFrom book i line = record {
   start = workingBetween (calendarOf book (activityAt book i)) (activityAt book i .earlyStart) (line .start);
   finish = workingBetween (calendarOf book (activityAt book i)) (activityAt book i .earlyFinish) (line .finish);
   duration = pos (line .minutes) -ℤ pos (activityAt book i .workingMinutes);
-  cost = less (line .cost) (atCompletion (costOf book i));
+  cost = less (line .cost) (completionOf (costOf book i));
 }
 
 abbrev pub varianceBy : Book → ℕ → Option BaselineLine → Option Variance

@@ -118,12 +118,6 @@ module _ {lo : ℕ} {sums₀ : List ℤ} {marks₀ : List ℕ} where
   pub laid-same : {xs ys : List Dated} {sums : List ℤ} {marks : List ℕ} → xs ≡ ys → Laid lo xs sums₀ marks₀ sums marks → Laid lo ys sums₀ marks₀ sums marks
   laid-same e l = rw e at l
 
-  pub laid-sums-long : {xs : List Dated} {sums : List ℤ} {marks : List ℕ} → Laid lo xs sums₀ marks₀ sums marks → length sums ≡ length sums₀
-  laid-sums-long {xs} l = ap length (l .added) ∙ sums-long lo sums₀ xs
-
-  pub laid-marks-long : {xs : List Dated} {sums : List ℤ} {marks : List ℕ} → Laid lo xs sums₀ marks₀ sums marks → length marks ≡ length marks₀
-  laid-marks-long {xs} l = ap length (l .marked) ∙ marks-long lo marks₀ xs
-
 -- ---- what a loop keeps: with the rest laid, the tables are as with all laid from the start on
 
 pub record Laying (lo : ℕ) (all : List Dated) (sums₀ : List ℤ) (marks₀ : List ℕ) (rest : List Dated) (sums : List ℤ) (marks : List ℕ) : Type 0 where

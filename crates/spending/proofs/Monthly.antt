@@ -14,14 +14,14 @@ use Rattle.holidays.specs.Holiday.{any}
 use Rattle.model.specs.Lists.{span, consIf, keep}
 use Rattle.model.specs.Days.{datesBetween}
 use Rattle.model.specs.Amounts.{Dated, on, amounts, saturatedSum, isCharged, lastDay, pointsBetween, points}
-use Rattle.model.specs.Months.{monthStart}
+use Rattle.model.specs.Months.{monthStart, inMonth}
 use Rattle.model.proofs.Days.{kept-between}
 use Rattle.calendar.specs.Tables.{works}
 use Rattle.spending.specs.declared.Grain.{Grain}
 use Rattle.spending.specs.declared.Grain.the-variants.{Day, Month}
 use Rattle.spending.specs.Listed.{workedBetween}
 use Rattle.spending.specs.Months.{monthEnd}
-use Rattle.spending.specs.Rows.{sumOn, sumsBetween, inMonth, grained}
+use Rattle.spending.specs.Rows.{sumOn, sumsBetween, grained}
 use Rattle.spending.proofs.Dates.{none-left, one-first, parted}
 use Rattle.spending.proofs.MonthDays.{in-month, same-month, later-month}
 use Rattle.spending.proofs.Grouping.{points-lead}

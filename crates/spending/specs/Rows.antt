@@ -8,7 +8,7 @@ use lib.IntN.{ℤ, pos}
 use lib.ListN.{length, getD, drop}
 use Rattle.money.specs.Words.{bits}
 use Rattle.model.specs.Amounts.{Dated, on, points}
-use Rattle.model.specs.Months.{monthStart}
+use Rattle.model.specs.Months.{inMonth}
 use Rattle.spending.specs.declared.Grain.{Grain}
 use Rattle.spending.specs.declared.Grain.the-variants.{Day, Month}
 use Rattle.spending.specs.Listed.{workedBetween}
@@ -39,9 +39,6 @@ unfoldable pub markedSums : ℕ → ℕ → List ℤ → List ℕ → List Dated
 markedSums lo hi sums marks = sumsBetween lo sums marks lo hi
 
 -- ---- by day or by month
-
-abbrev pub inMonth : Dated → Dated
-inMonth x = on (monthStart (x .day)) (x .amount)
 
 -- the points as they are, or those of the months, each from its first day
 unfoldable pub grained : Grain → List Dated → List Dated

@@ -1,6 +1,6 @@
 // Lines of text, put into a buffer one behind the other. What a function puts stands behind the first `at` bytes, up to the
 // place that it returns.
-ghost use mathlib.Core.List.{[], _∷_, _++_};
+ghost use mathlib.Core.List.{[], _++_};
 ghost use mathlib.Core.Path.{_≡_};
 ghost use Prim.Native.Nat.{_+_, _*_, _≤_};
 ghost use lib.ListN.{length, take};

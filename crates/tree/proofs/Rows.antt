@@ -1,19 +1,15 @@
 -- Each figure of a row, as of a cost, is rolled up by itself.
 use Prim.Native.Nat.{ℕ, _<_}
-use mathlib.Core.Path.{_≡_, refl, sym, ap, ap₂, _∙_}
+use mathlib.Core.Path.{_≡_, refl, ap, ap₂, _∙_}
 use mathlib.Core.List.{List, [], _∷_, _++_, map, flatMap, foldl, map-append, map-map, List·Memᴰ, List·Memᴰ·head, List·Memᴰ·tail}
 use native.Mathlib.Omega.{arith}
 use lib.Dec.{eqb}
 use lib.IntN.{ℤ}
 use lib.ListN.{length}
-use Rattle.money.specs.declared.costs.Cost.{Cost}
-use Rattle.money.specs.Costs.{sumOf}
 use Rattle.model.specs.Lists.{keep}
 use Rattle.model.specs.Tree.{Parents, indices, walkUp, brought, rollUp}
 use Rattle.model.proofs.Lists.{span-in}
-use Rattle.model.proofs.Costs.{Figure}
-use Rattle.tree.specs.Figures.{parentsOf, figureOf, saturatingAdd, rolledUp}
-use Rattle.tree.proofs.Rolled.{count-is, rolled-at}
+use Rattle.tree.specs.Figures.{saturatingAdd}
 
 module _ {Row : Type 0} (add : Row → Row → Row) (f : Row → ℤ) (g : (a b : Row) → f (add a b) ≡ saturatingAdd (f a) (f b)) where
   figure-folded : (a : Row) (rows : List Row) → f (foldl add a rows) ≡ foldl saturatingAdd (f a) (map f rows)
@@ -35,12 +31,3 @@ module _ {Row : Type 0} (add : Row → Row → Row) (f : Row → ℤ) (g : (a b 
     figure-rolled h e =
         figure-folded (rows p) (flatMap (brought add ps rows p) (indices ps))
         ∙ ap₂ (foldl saturatingAdd) e (figure-brought (indices ps) (λ i m. h i (omega (arith, span-in 0 (length ps) i m))))
-
-  -- so a slice of one figure of the rows, rolled up, has that figure of the rows rolled up
-  pub column-rolled : (numbers : List ℕ) (rows : ℕ → Row) (own : List ℤ) → ((i : ℕ) → i < length numbers → f (rows i) ≡ figureOf own i)
-      → (p : ℕ) → p < length numbers → f (rollUp add (parentsOf numbers) rows p) ≡ figureOf (rolledUp numbers own) p
-  column-rolled numbers rows own h p l =
-      figure-rolled (parentsOf numbers) rows (figureOf own) p (λ i k. h i (omega (arith, count-is numbers))) (h p l) ∙ sym (rolled-at numbers own p l)
-
-pub cost-rolled : (f : Cost → ℤ) → Figure f → (ps : Parents) (own : ℕ → Cost) (p : ℕ) → f (rollUp sumOf ps own p) ≡ rollUp saturatingAdd ps (λ i. f (own i)) p
-cost-rolled f g ps own p = figure-rolled sumOf f g ps own (λ i. f (own i)) p (λ i l. refl) refl

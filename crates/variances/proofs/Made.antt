@@ -34,7 +34,7 @@ use Rattle.model.specs.Calendar.{calendarOf}
 use Rattle.model.specs.Tree.{parents, indices}
 use Rattle.model.specs.Costs.{costOf}
 use Rattle.model.specs.Forecast.{less}
-use Rattle.model.specs.Variances.{Variance, workingBetween, lastAmong, lastLine, atCompletion, varianceFrom, varianceBy, varianceOf, variances}
+use Rattle.model.specs.Variances.{Variance, workingBetween, lastAmong, lastLine, varianceFrom, varianceBy, varianceOf, variances}
 use Rattle.model.proofs.Lists.{map-same}
 use Rattle.activities.specs.Columns.{calendarNumber, firstDate, lastDate}
 use Rattle.activities.proofs.Plans.{planned, column-at}
@@ -243,7 +243,7 @@ module _ {s : List ℕ} {date : OptionalNumber} {plan : Plan} (p : IsPlanOf s da
       {starts : List ℕ} {frozen spent left : List ℤ} → starts ≡ map (lastly listed.startOf 0 b) (span 0 n) → frozen ≡ map (lastly listed.costIn (pos 0) b) (span 0 n) →
       spent ≡ map (λ i. costOf b i .actual) (indices (parents b)) → left ≡ map (λ i. costOf b i .remaining) (indices (parents b)) →
       {m : ℕ} → m ≡ n → map (costIn starts frozen spent left) (span 0 m) ≡ columnOf (λ v. v .cost) b
-  unfolding varianceFrom atCompletion
+  unfolding varianceFrom
   costs-made {starts} {frozen} {spent} {left} e f g k {m} same =
       let made = costIn starts frozen spent left in
       rw same

@@ -1,6 +1,6 @@
 -- `replay_block` stays within the block, and ends. Assumes nothing.
 use borrow.Author.Needs.{needs}
-use Prim.Native.Nat.{_-_, _+_, _≤_, _<_}
+use Prim.Native.Nat.{_-_, _≤_}
 use Rattle.replay.proofs.replay_block.Statement.{statement}
 use Rattle.replay.proofs.replay_block.Tie as tie
 

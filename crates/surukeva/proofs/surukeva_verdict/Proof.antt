@@ -1,5 +1,5 @@
 -- `surukeva_verdict` meets its contract: it gives the number and the place of the answer. Assumes nothing.
-use mathlib.Core.Path.{_≡_, refl}
+use mathlib.Core.Path.{refl}
 use borrow.Author.Needs.{needs}
 use Rattle.format.specs.Verdict.{answerNumber, answerPlace}
 use Rattle.surukeva.proofs.surukeva_verdict.Statement.{statement}

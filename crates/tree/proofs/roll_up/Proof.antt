@@ -1,14 +1,12 @@
 -- `tree::roll_up` meets its contract. The loop's invariant: the figures so far, with the walks that are left, make the whole roll-up.
-use Prim.Native.Nat.{_+_, _≤_, _-_}
+use Prim.Native.Nat.{_≤_, _-_}
 use mathlib.Core.Path.{_≡_, sym, ap, _∙_}
 use native.Mathlib.Omega.{arith}
-use lib.IntN.{ℤ}
 use lib.ListN.{length}
 use mir.Syntax.{w64}
 use borrow.Author.Needs.{needs}
 use Rattle.integer.specs.Linear.{back}
-use Rattle.model.specs.Tree.{walk}
-use Rattle.tree.specs.Figures.{parentsOf, figureOf, addAlong}
+use Rattle.tree.specs.Figures.{figureOf}
 use Rattle.tree.proofs.Rolled.{rolledFrom, roll-next, roll-last, roll-is}
 use Rattle.tree.proofs.roll_up.Statement.{statement}
 use Rattle.tree.proofs.roll_up.Tie as tie

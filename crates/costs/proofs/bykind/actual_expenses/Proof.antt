@@ -1,5 +1,5 @@
 -- `actual_expenses` meets its contract: the expenses from 0.
-use mathlib.Core.Path.{sym, _∙_}
+use mathlib.Core.Path.{_∙_}
 use borrow.Author.Needs.{needs}
 use Rattle.format.specs.Verdict.{content}
 use Rattle.costs.proofs.Figured.{expense-column}

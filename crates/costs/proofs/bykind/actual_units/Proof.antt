@@ -1,6 +1,4 @@
 -- `actual_units` meets its contract: the units from 0.
-use mathlib.Core.Path.{sym, _∙_}
-use native.Mathlib.Omega.{arith}
 use borrow.Author.Needs.{needs}
 use Rattle.format.specs.Verdict.{content}
 use Rattle.costs.proofs.Figured.{units-column}

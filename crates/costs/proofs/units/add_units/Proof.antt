@@ -1,9 +1,8 @@
 -- `add_units` meets its contract: without a resource, or of another kind, the sum stays.
-use Prim.Native.Nat.{ℕ, _+_, _*_, _<_}
+use Prim.Native.Nat.{ℕ}
 use mathlib.Core.Path.{_≡_, sym, ap, ap₂, _∙_}
 use native.Mathlib.Omega.{arith}
-use lib.IntN.{ℤ, pos}
-use lib.ListN.{length, getD, set}
+use lib.ListN.{getD, set}
 use mir.Syntax.{w64}
 use borrow.Author.Needs.{needs}
 use Rattle.integer.specs.Linear.{seen, back}

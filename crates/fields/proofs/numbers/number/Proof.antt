@@ -1,6 +1,6 @@
 -- `number` meets its contract: the loop keeps `Reading`, and each way out is one of its laws.
 use Prim.Native.Nat.{_+_, _-_, _*_, _^_, _≤_, _<_}
-use mathlib.Core.Path.{_≡_, refl, ap, sym, _∙_}
+use mathlib.Core.Path.{_≡_, ap, sym, _∙_}
 use native.Mathlib.Omega.{arith}
 use borrow.Author.Needs.{needs}
 use Rattle.fields.proofs.Groups.{Reading, Due, begin, one-byte, more-bytes, ends, wrong}

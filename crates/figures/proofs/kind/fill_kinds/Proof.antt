@@ -1,5 +1,4 @@
 -- `fill_kinds` meets its contract: six columns make the rows.
-use borrow.Author.Needs.{needs}
 use mathlib.Core.Path.{refl, ap, sym, _∙_}
 use Prim.Native.Nat.{ℕ, _*_}
 use native.Mathlib.Omega.{arith}

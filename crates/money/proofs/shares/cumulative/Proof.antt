@@ -1,9 +1,9 @@
 -- `cumulative` meets its contract: the first shares of the magnitude in closed form, with the sign put back. Assumes nothing.
 use mathlib.Core.Path.{_≡_, ap, sym, subst, _∙_}
 use mathlib.Core.Logic.{⊎-elim}
-use Prim.Native.Nat.{ℕ, _≤_, _<_, _+_, _*_, _/_, _%_, min}
+use Prim.Native.Nat.{ℕ, _≤_, _+_, _*_, _/_, _%_, min}
 use native.Mathlib.Omega.{arith}
-use lib.IntN.{ℤ, natAbs}
+use lib.IntN.{natAbs}
 use mir.Val.{SFits}
 use mir.Syntax.{w64}
 use mir.Facts.{toZ-ofZ}

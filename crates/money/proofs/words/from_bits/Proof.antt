@@ -1,12 +1,12 @@
 -- `from_bits` meets its contract: below the sign bit the number itself, else how far it is behind 2^64. Assumes nothing.
-use lib.IntN.{pos, negsuc, _-ℤ_}
+use lib.IntN.{negsuc}
 use Prim.Native.Nat.{_-_}
 use native.Mathlib.Omega.{arith}
 use mir.Val.{toZ}
 use mir.Syntax.{w64}
 use borrow.Author.Needs.{needs}
-use borrow.Author.Tests.{le-ltb, lt-ltb}
-use Rattle.integer.specs.Linear.{linear, within, dif, seen, low}
+use borrow.Author.Tests.{le-ltb}
+use Rattle.integer.specs.Linear.{linear, within, dif, low}
 use Rattle.money.proofs.words.from_bits.Statement.{statement}
 use Rattle.money.proofs.words.from_bits.Tie as tie
 

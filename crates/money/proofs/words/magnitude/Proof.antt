@@ -1,5 +1,5 @@
 -- `magnitude` meets its contract: −1 − x fits where x is negative. Assumes nothing.
-use lib.IntN.{pos, negsuc, _-ℤ_}
+use lib.IntN.{negsuc, _-ℤ_}
 use mir.Syntax.{w64}
 use Rattle.integer.specs.Linear.{linear, within, dif, seen, abs}
 use Rattle.money.proofs.words.magnitude.Statement.{statement}

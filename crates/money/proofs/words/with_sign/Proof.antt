@@ -1,11 +1,10 @@
 -- `with_sign` meets its contract: what it asks says that the sign and the magnitude fit. Assumes nothing.
-use lib.IntN.{pos, negsuc, _-ℤ_, ℤ}
+use lib.IntN.{negsuc}
 use Prim.Native.Nat.{_-_}
-use native.Mathlib.Omega.{arith}
 use mir.Val.{toZ}
 use mir.Syntax.{w64}
 use borrow.Author.Needs.{needs}
-use Rattle.integer.specs.Linear.{linear, within, dif, low}
+use Rattle.integer.specs.Linear.{linear, within, dif}
 use Rattle.integer.specs.Signs.{when-neg, when-pos}
 use Rattle.money.proofs.words.with_sign.Statement.{statement}
 use Rattle.money.proofs.words.with_sign.Tie as tie

@@ -1,6 +1,6 @@
 -- `agrees` is safe and ends. Assumes nothing.
 use borrow.Author.Needs.{needs}
-use Prim.Native.Nat.{_-_, _+_, _≤_, _<_}
+use Prim.Native.Nat.{_-_}
 use Rattle.replay.proofs.answer.agrees.Statement.{statement}
 use Rattle.replay.proofs.answer.agrees.Tie as tie
 

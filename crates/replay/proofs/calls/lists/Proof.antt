@@ -1,7 +1,7 @@
 -- `lists` is safe and ends. Assumes nothing.
 use borrow.Author.Needs.{needs}
 use lib.ListN.{length}
-use Prim.Native.Nat.{_-_, _+_, _≤_, _<_}
+use Prim.Native.Nat.{_-_}
 use Rattle.replay.proofs.calls.lists.Statement.{statement}
 use Rattle.replay.proofs.calls.lists.Tie as tie
 

@@ -1,7 +1,7 @@
 -- `digits` is safe and ends: the next digit still fits. Assumes nothing.
 use borrow.Author.Needs.{needs}
 use lib.ListN.{length}
-use Prim.Native.Nat.{_-_, _+_, _≤_, _<_}
+use Prim.Native.Nat.{_-_}
 use Rattle.replay.proofs.text.digits.Statement.{statement}
 use Rattle.replay.proofs.text.digits.Tie as tie
 

@@ -1,7 +1,7 @@
 -- `find` is safe and ends. Assumes nothing.
 use borrow.Author.Needs.{needs}
 use lib.ListN.{length}
-use Prim.Native.Nat.{_-_, _+_, _≤_, _<_}
+use Prim.Native.Nat.{_-_, _≤_}
 use Rattle.replay.proofs.text.find.Statement.{statement}
 use Rattle.replay.proofs.text.find.Tie as tie
 

@@ -1,7 +1,7 @@
 -- `past_blanks` is safe and ends. Assumes nothing.
 use borrow.Author.Needs.{needs}
 use lib.ListN.{length}
-use Prim.Native.Nat.{_-_, _+_, _≤_, _<_}
+use Prim.Native.Nat.{_-_}
 use Rattle.replay.proofs.text.past_blanks.Statement.{statement}
 use Rattle.replay.proofs.text.past_blanks.Tie as tie
 

@@ -1,6 +1,6 @@
 -- `numbers` is safe and ends. Assumes nothing.
 use borrow.Author.Needs.{needs}
-use Prim.Native.Nat.{_-_, _+_, _≤_, _<_}
+use Prim.Native.Nat.{_-_}
 use Rattle.replay.proofs.vector.numbers.Statement.{statement}
 use Rattle.replay.proofs.vector.numbers.Tie as tie
 
