@@ -1,0 +1,5 @@
+pub mod Cells
+pub mod Tables
+pub mod Sets
+pub mod Written
+pub mod Mapped
