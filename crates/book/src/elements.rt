@@ -5,12 +5,12 @@ use crate::resources::read_resource;
 use fields::kinds::date;
 use fields::kinds::field;
 use format::Pos;
-use records::activities::read_activity;
-use records::activities::read_assignment;
-use records::activities::read_baseline_line;
-use records::activities::read_expense;
 use records::budgets::read_budget_change;
-use records::periods::read_period_record;
+use records::skips::skip_activity;
+use records::skips::skip_assignment;
+use records::skips::skip_baseline_line;
+use records::skips::skip_expense;
+use records::skips::skip_period_record;
 ghost use mathlib.Core.Path.{_≡_};
 ghost use Prim.Native.Nat.{_<_};
 ghost use Rattle.format.specs.Codec.{alike};
@@ -32,7 +32,7 @@ pub enum Element {
 }
 
 // Where reading goes on after one element.
-pub fn skip(book: &[u8], at: Pos, element: Element) -> Pos
+fn skip(book: &[u8], at: Pos, element: Element) -> Pos
     ensures { λ r. ⌜ r ≡ codecOf element .read (now (book .entry)) at .1 ⌝ }
 {
     match element {
@@ -43,10 +43,7 @@ pub fn skip(book: &[u8], at: Pos, element: Element) -> Pos
         Element::Activity {
             calendars,
             activities,
-        } => {
-            let x = read_activity(book, at, calendars, activities);
-            x.next
-        }
+        } => skip_activity(book, at, calendars, activities),
         Element::Resource => {
             let x = read_resource(book, at);
             x.next
@@ -54,18 +51,9 @@ pub fn skip(book: &[u8], at: Pos, element: Element) -> Pos
         Element::Assignment {
             activities,
             resources,
-        } => {
-            let x = read_assignment(book, at, activities, resources);
-            x.next
-        }
-        Element::Expense { activities } => {
-            let x = read_expense(book, at, activities);
-            x.next
-        }
-        Element::BaselineLine { activities } => {
-            let x = read_baseline_line(book, at, activities);
-            x.next
-        }
+        } => skip_assignment(book, at, activities, resources),
+        Element::Expense { activities } => skip_expense(book, at, activities),
+        Element::BaselineLine { activities } => skip_baseline_line(book, at, activities),
         Element::BudgetChange { activities } => {
             let x = read_budget_change(book, at, activities);
             x.next
@@ -77,10 +65,7 @@ pub fn skip(book: &[u8], at: Pos, element: Element) -> Pos
         Element::PeriodRecord {
             periods,
             activities,
-        } => {
-            let x = read_period_record(book, at, periods, activities);
-            x.next
-        }
+        } => skip_period_record(book, at, periods, activities),
     }
 }
 

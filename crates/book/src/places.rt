@@ -1,7 +1,7 @@
 // The index of places: where each element of a list begins.
 use crate::Section;
 use crate::elements::Element;
-use crate::elements::skip;
+use crate::elements::skip_all;
 use fields::kinds::place;
 ghost use mathlib.Core.Path.{_≡_};
 ghost use lib.ListN.{set};
@@ -28,7 +28,7 @@ pub fn index_places(book: &[u8], list: Section, element: Element, places: &mut [
     while i < count {
         let p = place(next);
         put(places, i as usize, p as u64);
-        next = skip(book, next, element);
+        next = skip_all(book, next, element, 1);
         i += 1;
     }
 }

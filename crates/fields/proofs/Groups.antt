@@ -161,3 +161,58 @@ module _ (s : List ℕ) (place b : ℕ) (i : place < length s) (e : b ≡ getD s
 
   pub more-bytes : 128 ≤ b → b < 256 → Reading s place (place + 1) 9 128 (b - 128)
   more-bytes m q = let z : 0 + 1 * (b - 128) ≡ b - 128 = omega arith in rw z at (goes-on first m q)
+
+-- two bytes
+module _
+    (s : List ℕ) (place a b : ℕ) (i : place + 1 < length s) (e : a ≡ getD s place 0) (f : b ≡ getD s (place + 1) 0) (m : 128 ≤ a)
+    (q : a < 256)
+  where
+    second : (b ≡ 0 → ⊥) → Due s place (place + 1) 9 128 (a - 128) b
+    second z =
+        record {
+          reading = more-bytes s place a (omega arith) e m q;
+          more = omega arith;
+          inside = i;
+          byte = f;
+          right = right-more 9 b (omega arith) z;
+        }
+
+    pub two-bytes : (b ≡ 0 → ⊥) → b < 128 → Value (a - 128 + 128 * b) (place + 2) ≡ numberAt s place
+    two-bytes z l = let n : place + 1 + 1 ≡ place + 2 = omega arith in rw n at (last (second z) l)
+
+    -- three
+    module _ (c : ℕ) (j : place + 2 < length s) (g : c ≡ getD s (place + 2) 0) (k : 128 ≤ b) (u : b < 256) where
+      third : (c ≡ 0 → ⊥) → Due s place (place + 2) 8 16384 (a - 128 + 128 * (b - 128)) c
+      third z =
+          let n : place + 1 + 1 ≡ place + 2 = omega arith in
+          record {
+            reading = rw n at (goes-on (second (λ y. omega arith)) k u);
+            more = omega arith;
+            inside = j;
+            byte = g;
+            right = right-more 8 c (omega arith) z;
+          }
+
+      pub three-bytes : (c ≡ 0 → ⊥) → c < 128 → Value (a - 128 + 128 * b - 16384 + 16384 * c) (place + 3) ≡ numberAt s place
+      three-bytes z l =
+          let n : place + 2 + 1 ≡ place + 3 = omega arith in
+          let v : a - 128 + 128 * (b - 128) + 16384 * c ≡ a - 128 + 128 * b - 16384 + 16384 * c = omega arith in
+          rw (n, v) at (last (third z) l)
+
+      -- four
+      pub four-bytes :
+          (d : ℕ) → place + 3 < length s → d ≡ getD s (place + 3) 0 → 128 ≤ c → c < 256 → (d ≡ 0 → ⊥) → d < 128 →
+          Value (a - 128 + 128 * b - 16384 + 16384 * c - 2097152 + 2097152 * d) (place + 4) ≡ numberAt s place
+      four-bytes d h p w x z l =
+          let n : place + 2 + 1 ≡ place + 3 = omega arith in
+          let n′ : place + 3 + 1 ≡ place + 4 = omega arith in
+          let v : a - 128 + 128 * (b - 128) + 16384 * (c - 128) + 2097152 * d ≡ a - 128 + 128 * b - 16384 + 16384 * c - 2097152 + 2097152 * d = omega arith in
+          let due : Due s place (place + 3) 7 2097152 (a - 128 + 128 * (b - 128) + 16384 * (c - 128)) d =
+          record {
+            reading = rw n at (goes-on (third (λ y. omega arith)) w x);
+            more = omega arith;
+            inside = h;
+            byte = p;
+            right = right-more 7 d (omega arith) z;
+          } in
+          rw (n′, v) at (last due l)

@@ -1,3 +1,4 @@
+pub mod Common
 pub mod Groups
 pub mod Marks
 pub mod Signed

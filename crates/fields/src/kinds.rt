@@ -5,10 +5,15 @@ use crate::OptionalAmount;
 use crate::OptionalAmountField;
 use crate::OptionalField;
 use crate::OptionalNumber;
+use crate::numbers::Few;
+use crate::numbers::brief;
+use crate::numbers::mark_at;
 use crate::numbers::number;
+use crate::numbers::short;
 use format::Num;
 use format::Pos;
 ghost use mathlib.Core.Path.{_≡_};
+ghost use mathlib.Core.Bool.{true};
 ghost use lib.Dec.{ltb};
 ghost use Rattle.format.specs.Number.{inRange};
 ghost use Rattle.format.specs.Reader as reader;
@@ -19,6 +24,8 @@ ghost use Rattle.format.specs.Field.{S, D};
 ghost use Rattle.format.specs.Codec as codec;
 ghost use Rattle.format.specs.Codec.{O};
 ghost use Rattle.format.specs.Format as layout;
+ghost use Rattle.format.specs.declared.Pos.the-variants.{At};
+ghost use Rattle.fields.specs.Common.{Fits};
 ghost use Rattle.fields.specs.Optional.{numberOption, amountOption};
 
 // The place of a position: of what is read next, or of the refusal.
@@ -65,12 +72,34 @@ fn within(n: Num, low: u64, bound: u64, code: u64, place: usize) -> Num
     }
 }
 
+// Whether a number was read, from `low` to below `bound`.
+fn fits(n: Few, low: u64, bound: u64) -> bool
+    ensures { λ r. ⌜ (r ≡ true → Fits n low bound) ⌝ }
+{
+    if n.next == 0 {
+        return false;
+    }
+    if n.value < low {
+        return false;
+    }
+    n.value < bound
+}
+
 // Any number.
 pub fn any_number(book: &[u8], at: Pos) -> Field
     ensures { λ r. ⌜ (r .value, r .next) ≡ reader.number (now (book .entry)) at ⌝ }
 {
     match at {
-        Pos::At(i) => found(number(book, i)),
+        Pos::At(i) => {
+            let n = short(book, i);
+            if n.next != 0 {
+                return Field {
+                    value: n.value,
+                    next: Pos::At(n.next),
+                };
+            }
+            found(number(book, i))
+        }
         Pos::Refused(e, p) => Field {
             value: 0,
             next: Pos::Refused(e, p),
@@ -84,6 +113,13 @@ pub fn ranged(book: &[u8], at: Pos, place: usize, low: u64, bound: u64, code: u6
 {
     match at {
         Pos::At(i) => {
+            let n = short(book, i);
+            if fits(n, low, bound) {
+                return Field {
+                    value: n.value,
+                    next: Pos::At(n.next),
+                };
+            }
             let n = number(book, i);
             found(within(n, low, bound, code, place))
         }
@@ -103,10 +139,11 @@ pub fn field(book: &[u8], at: Pos, low: u64, bound: u64, code: u64) -> Field
 }
 
 // O of a number from `low` to below `bound`, which is refused at its mark's place.
-pub fn optional(book: &[u8], at: Pos, low: u64, bound: u64) -> OptionalField
-    ensures { λ r. ⌜ (numberOption (r .value), r .next) ≡ O (kind.range low bound 4) .read (now (book .entry)) at ⌝ }
+fn optional(book: &[u8], at: usize, low: u64, bound: u64) -> OptionalField
+    ensures { λ r. ⌜ (numberOption (r .value), r .next) ≡ O (kind.range low bound 4) .read (now (book .entry)) (At at) ⌝ }
 {
-    let mark = field(book, at, 0, 2, 4);
+    let start = Pos::At(at);
+    let mark = field(book, start, 0, 2, 4);
     let next = mark.next;
     if mark.value == 0 {
         return OptionalField {
@@ -114,7 +151,7 @@ pub fn optional(book: &[u8], at: Pos, low: u64, bound: u64) -> OptionalField
             next,
         };
     }
-    let mark_place = place(at);
+    let mark_place = place(start);
     let value = ranged(book, next, mark_place, low, bound, 4);
     let end = value.next;
     OptionalField {
@@ -172,7 +209,31 @@ pub fn date(book: &[u8], at: Pos) -> Field
 pub fn optional_date(book: &[u8], at: Pos) -> OptionalField
     ensures { λ r. ⌜ (numberOption (r .value), r .next) ≡ O D .read (now (book .entry)) at ⌝ }
 {
-    optional(book, at, 10957, 47482)
+    match at {
+        Pos::At(i) => {
+            let mark = mark_at(book, i);
+            if mark == 0 {
+                return OptionalField {
+                    value: OptionalNumber::Absent,
+                    next: Pos::At(i + 1),
+                };
+            }
+            if mark == 1 {
+                let n = short(book, i + 1);
+                if fits(n, 10957, 47482) {
+                    return OptionalField {
+                        value: OptionalNumber::Present(n.value),
+                        next: Pos::At(n.next),
+                    };
+                }
+            }
+            optional(book, i, 10957, 47482)
+        }
+        Pos::Refused(e, p) => OptionalField {
+            value: OptionalNumber::Absent,
+            next: Pos::Refused(e, p),
+        },
+    }
 }
 
 // An index: below the count of what it names.
@@ -186,7 +247,31 @@ pub fn index(book: &[u8], at: Pos, named: u64) -> Field
 pub fn optional_index(book: &[u8], at: Pos, named: u64) -> OptionalField
     ensures { λ r. ⌜ (numberOption (r .value), r .next) ≡ O (kind.index named) .read (now (book .entry)) at ⌝ }
 {
-    optional(book, at, 0, named)
+    match at {
+        Pos::At(i) => {
+            let mark = mark_at(book, i);
+            if mark == 0 {
+                return OptionalField {
+                    value: OptionalNumber::Absent,
+                    next: Pos::At(i + 1),
+                };
+            }
+            if mark == 1 {
+                let n = brief(book, i + 1);
+                if fits(n, 0, named) {
+                    return OptionalField {
+                        value: OptionalNumber::Present(n.value),
+                        next: Pos::At(n.next),
+                    };
+                }
+            }
+            optional(book, i, 0, named)
+        }
+        Pos::Refused(e, p) => OptionalField {
+            value: OptionalNumber::Absent,
+            next: Pos::Refused(e, p),
+        },
+    }
 }
 
 // Minutes: up to 1,000,000,000.

@@ -1,7 +1,11 @@
 -- `index_places` meets its contract: one element a turn.
-use Prim.Native.Nat.{_-_}
-use mathlib.Core.Path.{refl}
+use Prim.Native.Nat.{ℕ, _-_}
+use mathlib.Core.Path.{_≡_, refl}
+use mathlib.Core.List.{List}
 use borrow.Author.Needs.{needs}
+use Rattle.format.specs.declared.Pos.{Pos}
+use Rattle.format.specs.Reader.{many}
+use Rattle.format.specs.Codec.{Codec, times, alike}
 use Rattle.format.specs.Records.{nextOf}
 use Rattle.format.proofs.Walks.{Indexed, index-none, index-more, index-end}
 use Rattle.book.specs.Elements.{codecOf}
@@ -24,12 +28,18 @@ add-i c = search needs
 loop-less : tie.Need-loop-less Inv-loop μ-loop
 loop-less c = search needs
 
+-- one element, as a list of one
+one : {A : Type 0} (a : Codec A) (s : List ℕ) (c : Pos) {end : Pos} → end ≡ alike 1 a .read s c .1 → end ≡ a .read s c .1
+unfolding times many
+one a s c e = e
+
 loop-again : tie.Need-loop-again Inv-loop μ-loop
 loop-again c =
     let put = c .before .before .before in
     let place = put .before .before in
     let inv = place .before .before .loop .inv in
-    rw (c .skip .ensures)
+    let next = one _ _ _ (c .skip-all .ensures) in
+    rw next
     (index-more inv (place .before .loop-test .taken) _ refl (place .place .result) (place .place .ensures) (put .put .last .0) (put .put .ensures))
 
 same-length : tie.Need-same-length Inv-loop μ-loop

@@ -139,11 +139,15 @@ tenth c =
       more = omega (arith, l .inv .1);
       inside = b .before .before .if6 .left;
       byte = b .wide3 .ensures;
-      right = right-tenth (l .left) (b .wide3 .result) (omega (arith, l .inv .1, b .before .before .before .loop-test .left)) (c .if7 .taken);
+      right = right-tenth (l .left) (b .wide3 .result) (omega (arith, l .inv .1, b .before .before .before .loop-test .left)) (omega arith);
     }
 
 once : (c : tie.Then7 Inv-loop μ-loop) → let l = c .before .before .before .before .before .loop in l .scale * c .before .wide3 .result ≡ l .scale
-once c = let l = c .before .before .before .before .before .loop in let z : l .scale * 1 ≡ l .scale = omega arith in ap (λ x. l .scale * x) (c .if7 .taken) ∙ z
+once c =
+    let l = c .before .before .before .before .before .loop in
+    let one : c .before .wide3 .result ≡ 1 = omega arith in
+    let z : l .scale * 1 ≡ l .scale = omega arith in
+    ap (λ x. l .scale * x) one ∙ z
 
 add-t29 : tie.Need-add-t29 Inv-loop μ-loop
 add-t29 c = omega (arith, last-fits (tenth c) (omega arith), once c)
@@ -161,7 +165,7 @@ returns-8 c =
     let b = c .before in
     let l = b .before .before .before .before .loop in
     wrong (l .inv .0) (omega (arith, l .inv .1)) _ (b .before .before .if6 .left) (b .wide3 .ensures)
-    (wrong-tenth (l .left) (b .wide3 .result) (omega (arith, l .inv .1, b .before .before .before .loop-test .left)) (c .if7 .left))
+    (wrong-tenth (l .left) (b .wide3 .result) (omega (arith, l .inv .1, b .before .before .before .loop-test .left)) (λ z. omega arith))
 
 pub number-spec : {M : Type 1} → statement M
 number-spec =
