@@ -1,3 +1,4 @@
 pub mod Replies
 pub mod Sized
 pub mod Nothing
+pub mod Accepted

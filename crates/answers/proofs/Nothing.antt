@@ -13,12 +13,10 @@ use Rattle.model.specs.Amounts.{Dated, isBetween, isCharged, pointsBetween, las
 use Rattle.model.specs.Tree.{parents, leaves}
 use Rattle.model.specs.Planned.{plannedAmounts, plannedByDay, running, plannedCurve, plannedCurveBetween}
 use Rattle.model.specs.Earned.{noEarned, addEarned, earnedAt, projectEarned}
-use Rattle.spending.specs.Rows.{pointRow}
 use Rattle.rows.specs.Rows.{numbers}
 use Rattle.answers.specs.declared.Reply.the-variants.{Accepted}
-use Rattle.answers.specs.Rows.{Rows, plannedCurveRows}
-use Rattle.answers.specs.Calls.{Asked, Answers}
-use Rattle.answers.proofs.Replies.{Askable}
+use Rattle.answers.specs.Rows.{Rows, pointRow, plannedCurveRows}
+use Rattle.answers.specs.Calls.{Puts}
 use Rattle.answers.proofs.Sized.{nothing-there}
 
 module _ (book : Book) (none : length (book .activities) ≡ 0) where
@@ -47,6 +45,6 @@ module _ (book : Book) (none : length (book .activities) ≡ 0) where
   no-curve from to = ap (λ (xs : List Dated). map pointRow (keep (isBetween from to) xs)) no-points
 
 -- a call without rows
-pub nothing-answered : {asked : Asked} (rows : Book → Rows) (book : Book) (out : List ℕ) → Askable asked book → rows book ≡ [] → Answers asked rows book out (Accepted 0) out
+pub nothing-put : (rows : Rows) (out : List ℕ) → rows ≡ [] → Puts rows out (Accepted 0) out
 unfolding numbers flatMap
-nothing-answered rows book out ok e = nothing-there rows book out ok {count = 0} {width = 0} (record { many = ap length e; long = ap (λ (rs : Rows). length (numbers rs)) e }) refl
+nothing-put rows out e = nothing-there rows out {count = 0} {width = 0} (record { many = ap length e; long = ap (λ (rs : Rows). length (numbers rs)) e }) refl

@@ -1,6 +1,6 @@
 -- The table of answers, line by line.
 use Prim.Native.Nat.{ℕ, _≤_, _<_}
-use mathlib.Core.Path.{_≡_, refl, sym, ap, ap₂, _∙_, subst}
+use mathlib.Core.Path.{_≡_, refl, sym, ap, ap₂, _∙_}
 use mathlib.Core.Bool.{Bool, true, false, not}
 use mathlib.Core.List.{List, [], _∷_, _++_}
 use lib.ListN.{length, drop}
@@ -12,10 +12,9 @@ use Rattle.answers.specs.declared.Reply.{Reply}
 use Rattle.answers.specs.declared.Reply.the-variants.{Accepted, Refused}
 use Rattle.answers.specs.declared.open.Opened.{Opened}
 use Rattle.answers.specs.declared.open.Opening.{Opening}
-use Rattle.answers.specs.declared.open.Opening.the-variants as opening
 use Rattle.answers.specs.Rows.{Rows}
 use Rattle.answers.specs.Opened.{IsOpened, IsOpening}
-use Rattle.answers.specs.Calls.{Asked, asks, all, isActivity, isDate, replyOn, leaves, Answers, reply, left}
+use Rattle.answers.specs.Calls.{Condition, isActivity, isDate, checked, fitted, lentAfter, Puts, replyNumber, replyPlace, reply, left, Answers, Returns}
 
 -- ---- what is asked
 
@@ -24,102 +23,87 @@ pub opposite : (b c : Bool) → not b ≡ c → b ≡ not c
 opposite true c e = ap not e
 opposite false c e = ap not e
 
-module _ (p : ℕ → Bool) where
-  pub none-asked : all p [] ≡ true
-  unfolding all
-  none-asked = refl
+module _ (date : ℕ) {b : Bool} (e : b ≡ isDate date) where
+  pub in-range : not b ≡ false → isDate date ≡ true
+  in-range t = sym e ∙ opposite b false t
 
-  pub one-asked : (x : ℕ) → p x ≡ true → all p (x ∷ []) ≡ true
-  unfolding all
-  one-asked x a = rw a refl
+  pub out-of-range : not b ≡ true → isDate date ≡ false
+  out-of-range t = sym e ∙ opposite b true t
 
-  pub one-other : (x : ℕ) → p x ≡ false → all p (x ∷ []) ≡ false
-  unfolding all
-  one-other x a = rw a refl
+-- a call with these conditions is not refused for them
+pub record Met (conditions : List Condition) (book : Book) : Type 0 where
+  pub passes : (r : Reply) → checked conditions book r ≡ r
 
-  pub two-asked : (x y : ℕ) → p x ≡ true → p y ≡ true → all p (x ∷ y ∷ []) ≡ true
-  unfolding all
-  two-asked x y a b = rw (a, b) refl
+-- or is refused for one of them, whatever it would answer
+pub record Unmet (conditions : List Condition) (book : Book) (number : ℕ) : Type 0 where
+  pub fails : (r : Reply) → checked conditions book r ≡ Refused number 0
 
-  pub first-other : (x y : ℕ) → p x ≡ false → all p (x ∷ y ∷ []) ≡ false
-  unfolding all
-  first-other x y a = rw a refl
+pub none-asked : {book : Book} → Met [] book
+unfolding checked
+none-asked = record { passes = λ r. refl }
 
-  pub second-other : (x y : ℕ) → p x ≡ true → p y ≡ false → all p (x ∷ y ∷ []) ≡ false
-  unfolding all
-  second-other x y a b = rw (a, b) refl
+module _ {book : Book} {c : Condition} {cs : List Condition} where
+  pub unmet : c .holds book ≡ false → Unmet (c ∷ cs) book (c .number)
+  unfolding checked
+  unmet e = record { fails = λ r. rw e refl }
 
-pub in-book : (book : Book) (i n : ℕ) → length (book .activities) ≡ n → i < n → all (isActivity book) (i ∷ []) ≡ true
-unfolding all isActivity
+  pub met : c .holds book ≡ true → Met cs book → Met (c ∷ cs) book
+  unfolding checked
+  met e m = record { passes = λ r. rw e (m .passes r) }
+
+  pub unmet-later : c .holds book ≡ true → {number : ℕ} → Unmet cs book number → Unmet (c ∷ cs) book number
+  unfolding checked
+  unmet-later e m = record { fails = λ r. rw e (m .fails r) }
+
+pub in-book : (book : Book) (i n : ℕ) → length (book .activities) ≡ n → i < n → isActivity i book ≡ true
+unfolding isActivity
 in-book book i n e h = rw (e, lt-ltb i n h) refl
 
-pub not-in-book : (book : Book) (i n : ℕ) → length (book .activities) ≡ n → n ≤ i → all (isActivity book) (i ∷ []) ≡ false
-unfolding all isActivity
+pub not-in-book : (book : Book) (i n : ℕ) → length (book .activities) ≡ n → n ≤ i → isActivity i book ≡ false
+unfolding isActivity
 not-in-book book i n e h = rw (e, le-ltb i n h) refl
 
--- ---- on an accepted book
+-- ---- the rows
 
--- all that is asked may be asked
-pub record Askable (asked : Asked) (book : Book) : Type 0 where
-  pub known : all (isActivity book) (asked .activities) ≡ true
-  pub dated : all isDate (asked .dates) ≡ true
+module _ (rows : Rows) (out : List ℕ) where
+  pub too-short : length out < length (numbers rows) → Puts rows out (Refused 10 0) out
+  unfolding fitted lentAfter
+  too-short h = record { answer = rw (lt-leb (length (numbers rows)) (length out) h) refl; lent = refl }
 
-module _ (book : Book) where
-  pub dates-asked : (dates : List ℕ) → all isDate dates ≡ true → Askable (asks [] dates) book
-  dates-asked dates d = record { known = none-asked (isActivity book); dated = d }
-
-  pub date-asked : (date : ℕ) → isDate date ≡ true → Askable (asks [] (date ∷ [])) book
-  date-asked date d = dates-asked (date ∷ []) (one-asked isDate date d)
-
-  pub nothing-asked : Askable (asks [] []) book
-  nothing-asked = dates-asked [] (none-asked isDate)
-
-module _ (asked : Asked) (rows : Book → Rows) (book : Book) (out : List ℕ) where
-  pub unknown : all (isActivity book) (asked .activities) ≡ false → Answers asked rows book out (Refused 8 0) out
-  unfolding replyOn leaves
-  unknown a = record { answer = rw a refl; lent = refl }
-
-  pub misdated : all (isActivity book) (asked .activities) ≡ true → all isDate (asked .dates) ≡ false → Answers asked rows book out (Refused 9 0) out
-  unfolding replyOn leaves
-  misdated a d = record { answer = rw (a, d) refl; lent = refl }
-
-  module _ (ok : Askable asked book) where
-    pub too-short : length out < length (numbers (rows book)) → Answers asked rows book out (Refused 10 0) out
-    unfolding replyOn leaves
-    too-short h = record { answer = rw (ok .known, ok .dated, lt-leb (length (numbers (rows book))) (length out) h) refl; lent = refl }
-
-    -- the rows in front, and then what was there
-    pub filled :
-        (n : ℕ) → n ≡ length (rows book) → (m : ℕ) → m ≡ length (numbers (rows book)) → m ≤ length out → (front : List ℕ) → front ≡ numbers (rows book) →
-        Answers asked rows book out (Accepted n) (front ++ drop m out)
-    unfolding replyOn leaves
-    filled n e m is h front f =
-        record {
-          answer = rw (ok .known, ok .dated, ← is, le-leb m (length out) h, e) refl;
-          lent = ap₂ (λ (l : List ℕ) (k : ℕ). l ++ drop k out) f is;
-        }
-
--- a date, as code tests it
-module _ (book : Book) (date : ℕ) {is : Bool} (e : is ≡ isDate date) where
-  pub date-tested : not is ≡ false → Askable (asks [] (date ∷ [])) book
-  date-tested t = date-asked book date (sym e ∙ opposite is false t)
-
-  pub date-refused : (rows : Book → Rows) (out : List ℕ) → not is ≡ true → Answers (asks [] (date ∷ [])) rows book out (Refused 9 0) out
-  date-refused rows out t = misdated (asks [] (date ∷ [])) rows book out (none-asked (isActivity book)) (one-other isDate date (sym e ∙ opposite is true t))
+  -- the rows in front, and then what was there
+  pub filled :
+      (n : ℕ) → n ≡ length rows → (m : ℕ) → m ≡ length (numbers rows) → m ≤ length out → (front : List ℕ) → front ≡ numbers rows →
+      Puts rows out (Accepted n) (front ++ drop m out)
+  unfolding fitted lentAfter
+  filled n e m is h front f =
+      record {
+        answer = rw (← is, le-leb m (length out) h, e) refl;
+        lent = ap₂ (λ (l : List ℕ) (k : ℕ). l ++ drop k out) f is;
+      }
 
 -- ---- on any bytes
 
--- what `open` gave is what is known of the book
-pub opened-is : {s : List ℕ} {o : Opening} {r : Opened} → IsOpening s o → o ≡ opening.Accepted r → IsOpened s r
-opened-is {s} w e = subst (IsOpening s) e w
+module _ (conditions : List Condition) (rows : Book → Rows) (s out : List ℕ) where
+  -- what is answered is left so in lent memory
+  answered : (r : Reply) → r ≡ reply conditions rows s (length out) → (after : List ℕ) → after ≡ lentAfter r (rows (content s)) out → Answers conditions rows s out r after
+  unfolding left
+  answered r e after l = record { answer = e; lent = l ∙ ap (λ (x : Reply). lentAfter x (rows (content s)) out) e }
 
-module _ (asked : Asked) (rows : Book → Rows) (s out : List ℕ) where
-  pub book-refused : {o : Opening} {e p : ℕ} → IsOpening s o → o ≡ opening.Refused e p → (Refused e p ≡ reply asked rows s (length out)) × (out ≡ left asked rows s out)
-  unfolding reply left leaves
-  book-refused {o} {e} {p} w h = rw (subst (IsOpening s) h w) (refl, refl)
+  pub book-refused : (o : Opening) → IsOpening s o → o .refused ≡ true → Answers conditions rows s out (Refused (o .number) (o .place)) out
+  unfolding reply lentAfter
+  book-refused o w e = answered (Refused (o .number) (o .place)) (rw (w .refuses e) refl) out refl
 
-  pub book-accepted :
-      {r : Opened} → IsOpened s r → {a : Reply} {after : List ℕ} → Answers asked rows (content s) out a after →
-      (a ≡ reply asked rows s (length out)) × (after ≡ left asked rows s out)
-  unfolding reply left
-  book-accepted w a = rw (w .accepted .1) (a .answer, a .lent ∙ ap (λ (x : Reply). leaves x (rows (content s)) out) (a .answer))
+  module _ {r : Opened} (w : IsOpened s r) where
+    pub call-refused : {number : ℕ} → Unmet conditions (content s) number → Answers conditions rows s out (Refused number 0) out
+    unfolding reply lentAfter
+    call-refused {number} u = answered (Refused number 0) (rw (w .accepted .1) (sym (u .fails (fitted (rows (content s)) (length out))))) out refl
+
+    pub call-answered : Met conditions (content s) → {a : Reply} {after : List ℕ} → Puts (rows (content s)) out a after → Answers conditions rows s out a after
+    unfolding reply
+    call-answered m {a} {after} p =
+        answered a (rw (w .accepted .1) (p .answer ∙ sym (m .passes (fitted (rows (content s)) (length out))))) after (p .lent)
+
+  -- as C has it
+  pub returned :
+      {r : Reply} {after : List ℕ} → Answers conditions rows s out r after → {number place : ℕ} → number ≡ replyNumber r → place ≡ replyPlace r → Returns conditions rows s out number place after
+  returned a n p = record { returned = n ∙ ap replyNumber (a .answer); placed = p ∙ ap replyPlace (a .answer); lent = a .lent }

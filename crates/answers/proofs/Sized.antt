@@ -1,15 +1,14 @@
--- Rows of one width: how many numbers they have, and what is answered with them where all that is asked may be asked.
+-- Rows of one width: how many numbers they have, and what is answered with them.
 use Prim.Native.Nat.{ℕ, _*_, _≤_, _<_}
 use mathlib.Core.Path.{_≡_, refl, sym, ap, _∙_}
 use mathlib.Core.List.{List, [], _∷_, _++_, map, flatMap, append-nil}
 use native.Mathlib.Omega.{arith}
 use lib.ListN.{length, drop, length-map, length-append}
-use Rattle.format.specs.Book.{Book}
 use Rattle.rows.specs.Rows.{numbers}
 use Rattle.answers.specs.declared.Reply.the-variants.{Accepted, Refused}
 use Rattle.answers.specs.Rows.{Rows}
-use Rattle.answers.specs.Calls.{Asked, Answers}
-use Rattle.answers.proofs.Replies.{Askable, too-short, filled}
+use Rattle.answers.specs.Calls.{Puts}
+use Rattle.answers.proofs.Replies.{too-short, filled}
 
 -- so many rows, each of so many numbers
 pub record Sized (rows : Rows) (count width : ℕ) : Type 0 where
@@ -37,15 +36,15 @@ no-numbers : (xs : List ℕ) → length xs ≡ 0 → xs ≡ []
 no-numbers [] e = refl
 no-numbers (x ∷ xs) e = absurd (omega arith)
 
-module _ {asked : Asked} (rows : Book → Rows) (book : Book) (out : List ℕ) (ok : Askable asked book) {count width : ℕ} (size : Sized (rows book) count width) where
-  pub no-room : length out < count * width → Answers asked rows book out (Refused 10 0) out
-  no-room h = too-short asked rows book out ok (omega (arith, size .long))
+module _ (rows : Rows) (out : List ℕ) {count width : ℕ} (size : Sized rows count width) where
+  pub no-room : length out < count * width → Puts rows out (Refused 10 0) out
+  no-room h = too-short rows out (omega (arith, size .long))
 
-  pub in-front : count * width ≤ length out → (front : List ℕ) → front ≡ numbers (rows book) → Answers asked rows book out (Accepted count) (front ++ drop (count * width) out)
-  in-front h front e = filled asked rows book out ok count (sym (size .many)) (count * width) (sym (size .long)) h front e
+  pub in-front : count * width ≤ length out → (front : List ℕ) → front ≡ numbers rows → Puts rows out (Accepted count) (front ++ drop (count * width) out)
+  in-front h front e = filled rows out count (sym (size .many)) (count * width) (sym (size .long)) h front e
 
   -- no rows: nothing is put
-  pub nothing-there : count ≡ 0 → Answers asked rows book out (Accepted 0) out
+  pub nothing-there : count ≡ 0 → Puts rows out (Accepted 0) out
   nothing-there z =
-      let none : length (numbers (rows book)) ≡ 0 = omega (arith, size .long, ap (λ (n : ℕ). n * width) z) in
-      filled asked rows book out ok 0 (sym (size .many ∙ z)) 0 (sym none) (omega arith) [] (sym (no-numbers (numbers (rows book)) none))
+      let none : length (numbers rows) ≡ 0 = omega (arith, size .long, ap (λ (n : ℕ). n * width) z) in
+      filled rows out 0 (sym (size .many ∙ z)) 0 (sym none) (omega arith) [] (sym (no-numbers (numbers rows) none))

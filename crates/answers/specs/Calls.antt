@@ -1,7 +1,7 @@
 -- What is answered to a call, and what it leaves in lent memory: document 01's table.
 use Prim.Native.Nat.{ℕ}
 use mathlib.Core.Path.{_≡_}
-use mathlib.Core.Bool.{Bool, true, _&&_, cond}
+use mathlib.Core.Bool.{Bool, _&&_, cond}
 use mathlib.Core.List.{List, [], _∷_, _++_}
 use lib.Dec.{leb, ltb}
 use lib.ListN.{length, drop}
@@ -14,40 +14,38 @@ use Rattle.answers.specs.declared.Reply.{Reply}
 use Rattle.answers.specs.declared.Reply.the-variants.{Accepted, Refused}
 use Rattle.answers.specs.Rows.{Rows}
 
--- ---- what is asked
+-- ---- what a call asks
 
--- beside the book: activities, by their indices, and dates
-pub record Asked : Type 0 where
-  pub activities : List ℕ
-  pub dates : List ℕ
+-- a condition on an accepted book, and the number of the refusal where it does not hold
+pub record Condition : Type 0 where
+  pub number : ℕ
+  pub holds : Book → Bool
 
-abbrev pub asks : List ℕ → List ℕ → Asked
-asks is ds = record { activities = is; dates = ds }
-
-unfoldable pub isActivity : Book → ℕ → Bool
-isActivity book i = ltb i (length (book .activities))
+unfoldable pub isActivity : ℕ → Book → Bool
+isActivity i book = ltb i (length (book .activities))
 
 -- document 01's status date is within D's range, and so is every asked date
 unfoldable pub isDate : ℕ → Bool
 isDate d = leb 10957 d && leb d 47481
 
-unfoldable pub all : (ℕ → Bool) → List ℕ → Bool
-all p [] = true
-all p (x ∷ xs) = p x && all p xs
+-- 8: an asked activity is in the book
+abbrev pub activityAsked : ℕ → Condition
+activityAsked i = record { number = 8; holds = isActivity i }
+
+-- 9: an asked date is within the range
+abbrev pub dateAsked : ℕ → Condition
+dateAsked d = record { number = 9; holds = λ book. isDate d }
 
 -- ---- what is answered
 
--- this condition, else a refusal of the call, whose place is 0
-abbrev pub required : Bool → ℕ → Reply → Reply
-required ok number r = cond ok r (Refused number 0)
+-- the first condition that does not hold refuses the call; the place is 0
+unfoldable pub checked : List Condition → Book → Reply → Reply
+checked [] book r = r
+checked (c ∷ cs) book r = cond (c .holds book) (checked cs book r) (Refused (c .number) 0)
 
--- on an accepted book: 8 for an asked activity that is not in it, then 9 for an asked date outside the range, then 10 for a lent slice that is too short
-unfoldable pub replyOn : Asked → (Book → Rows) → Book → ℕ → Reply
-replyOn asked rows book lent =
-    required (all (isActivity book) (asked .activities)) 8
-    (required (all isDate (asked .dates)) 9
-    (required (leb (length (numbers (rows book))) lent) 10
-    (Accepted (length (rows book)))))
+-- the rows, with their count; 10 where the lent slice is too short for their numbers
+unfoldable pub fitted : Rows → ℕ → Reply
+fitted rows lent = cond (leb (length (numbers rows)) lent) (Accepted (length rows)) (Refused 10 0)
 
 -- a refused book before all else
 abbrev pub replyAt : Pos → Reply → Reply
@@ -55,23 +53,14 @@ replyAt (pos.At i) r = r
 replyAt (pos.Refused e p) r = Refused e p
 
 -- the rows go to the front of lent memory, and the rest keeps its numbers; a refusal leaves it untouched
-unfoldable pub leaves : Reply → Rows → List ℕ → List ℕ
-leaves (Accepted n) rows out = numbers rows ++ drop (length (numbers rows)) out
-leaves (Refused e p) rows out = out
+unfoldable pub lentAfter : Reply → Rows → List ℕ → List ℕ
+lentAfter (Accepted n) rows out = numbers rows ++ drop (length (numbers rows)) out
+lentAfter (Refused e p) rows out = out
 
--- r is what is answered on an accepted book, and `after` what is left in lent memory that was `out`
-pub record Answers (asked : Asked) (rows : Book → Rows) (book : Book) (out : List ℕ) (r : Reply) (after : List ℕ) : Type 0 where
-  pub answer : r ≡ replyOn asked rows book (length out)
-  pub lent : after ≡ leaves r (rows book) out
-
-module _ (asked : Asked) (rows : Book → Rows) (book : List ℕ) where
-  -- what a call that asks this and has these rows answers to any bytes, with so much lent
-  unfoldable pub reply : ℕ → Reply
-  reply lent = replyAt (verdict book) (replyOn asked rows (content book) lent)
-
-  -- what it leaves in lent memory
-  unfoldable pub left : List ℕ → List ℕ
-  left out = leaves (reply (length out)) (rows (content book)) out
+-- r is answered with these rows where `out` is lent, and `after` is left in it
+pub record Puts (rows : Rows) (out : List ℕ) (r : Reply) (after : List ℕ) : Type 0 where
+  pub answer : r ≡ fitted rows (length out)
+  pub lent : after ≡ lentAfter r rows out
 
 -- the number that is returned: 0 for accepted
 unfoldable pub replyNumber : Reply → ℕ
@@ -82,3 +71,24 @@ replyNumber (Refused e p) = e
 unfoldable pub replyPlace : Reply → ℕ
 replyPlace (Accepted n) = n
 replyPlace (Refused e p) = p
+
+-- a call with these conditions, in the order in which they refuse, and these rows
+module _ (conditions : List Condition) (rows : Book → Rows) (s : List ℕ) where
+  -- what it answers to any bytes, with so much lent
+  unfoldable pub reply : ℕ → Reply
+  reply lent = replyAt (verdict s) (checked conditions (content s) (fitted (rows (content s)) lent))
+
+  -- what it leaves in lent memory
+  unfoldable pub left : List ℕ → List ℕ
+  left out = lentAfter (reply (length out)) (rows (content s)) out
+
+  -- the contract of a call: r is its answer, and `after` what is left in lent memory that was `out`
+  pub record Answers (out : List ℕ) (r : Reply) (after : List ℕ) : Type 0 where
+    pub answer : r ≡ reply (length out)
+    pub lent : after ≡ left out
+
+  -- the contract as C has it: the number is returned, the place set
+  pub record Returns (out : List ℕ) (number place : ℕ) (after : List ℕ) : Type 0 where
+    pub returned : number ≡ replyNumber (reply (length out))
+    pub placed : place ≡ replyPlace (reply (length out))
+    pub lent : after ≡ left out

@@ -1,9 +1,15 @@
-// What is answered to a call: the table of refusals, what is asked beside the book, and the book opened for it.
-ghost use mathlib.Core.List.{[], _∷_};
+// What is answered to a call: document 01's table of refusals, and the book opened for it.
 ghost use mathlib.Core.Path.{_≡_};
-ghost use Rattle.answers.specs.Calls.{isDate, all};
+ghost use Rattle.answers.specs.Calls.{isDate};
 
 pub mod open;
+
+// The refusals of a call: an asked activity that is not in the book, an asked date outside D's range, a lent slice too short for the rows.
+pub const UNKNOWN_ACTIVITY: u64 = 8;
+
+pub const DATE_OUT_OF_RANGE: u64 = 9;
+
+pub const TOO_SHORT: u64 = 10;
 
 // Accepted, with the count of rows, or the refusal, its number and its place.
 pub enum Reply {
@@ -19,14 +25,4 @@ pub fn is_date(day: u64) -> bool
         return false;
     }
     day <= 47481
-}
-
-// Whether both are.
-pub fn are_dates(from: u64, to: u64) -> bool
-    ensures { λ r. ⌜ r ≡ all isDate (from ∷ to ∷ []) ⌝ }
-{
-    if is_date(from) {
-        return is_date(to);
-    }
-    false
 }

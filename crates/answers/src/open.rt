@@ -17,9 +17,12 @@ pub struct Opened {
     pub ledger: Ledger,
 }
 
-pub enum Opening {
-    Accepted(Opened),
-    Refused(u64, usize),
+// A refused book, with the number and the place, or what was opened of an accepted one.
+pub struct Opening {
+    pub refused: bool,
+    pub number: u64,
+    pub place: usize,
+    pub opened: Opened,
 }
 
 // The book's layout, read once.
@@ -27,23 +30,32 @@ pub fn open(book: &[u8]) -> Opening
     ensures { λ r. ⌜ IsOpening (now (book .entry)) r ⌝ }
 {
     let layout = read_layout(book);
+    let header = layout.header;
+    let date = header.date;
+    let technique = header.technique;
+    let forecast = header.forecast;
+    let plan = layout.plan;
+    let ledger = layout.ledger;
+    let opened = Opened {
+        date,
+        technique,
+        forecast,
+        plan,
+        ledger,
+    };
     let end = layout.end;
     match end {
-        Pos::At(_) => {
-            let header = layout.header;
-            let date = header.date;
-            let technique = header.technique;
-            let forecast = header.forecast;
-            let plan = layout.plan;
-            let ledger = layout.ledger;
-            Opening::Accepted(Opened {
-                date,
-                technique,
-                forecast,
-                plan,
-                ledger,
-            })
-        }
-        Pos::Refused(number, place) => Opening::Refused(number, place),
+        Pos::At(_) => Opening {
+            refused: false,
+            number: 0,
+            place: 0,
+            opened,
+        },
+        Pos::Refused(number, place) => Opening {
+            refused: true,
+            number,
+            place,
+            opened,
+        },
     }
 }

@@ -16,6 +16,7 @@ use Rattle.format.specs.declared.ChangeStatus.the-variants.{Pending, NotApprove
 use Rattle.format.specs.declared.Region.the-variants.{None}
 use Rattle.format.specs.Enumeration.{changeStatusNumber}
 use Rattle.format.specs.Book.{Calendar, Activity, BaselineLine, Budget, BudgetChange, PeriodRecord, Book}
+use Rattle.format.specs.Format.{names}
 use Rattle.holidays.specs.Holiday.{any}
 use Rattle.model.specs.declared.Earned.{Earned}
 use Rattle.model.specs.Lists.{span, keep}
@@ -23,7 +24,7 @@ use Rattle.model.specs.Calendar.{isWorking, exceptionOn, usuallyWorks, i
 use Rattle.model.specs.Tree.{parents, isLeaf, steps, walk, stepsMade}
 use Rattle.model.specs.Forecast.{cpi, spi, toEarn, etc}
 use Rattle.model.specs.Variances.{workingUpTo, workingBetween, lastAmong}
-use Rattle.model.specs.Budgets.{budgetFor, changes, currentOf, proposedOf, hasLine, lineOwners, distributedOf, depthOf, funded, notCovered}
+use Rattle.model.specs.Budgets.{budgetFor, changes, currentOf, proposedOf, hasLine, lineAccounts, distributedOf, depthOf, funded, notCovered}
 use Rattle.model.specs.Periods.{actualIn, isStored, recordsToDate, toDate}
 use Rattle.model.proofs.Calendar.{weekday-is}
 
@@ -116,7 +117,7 @@ abbrev circle : Book
 circle = money (under (some 0) ∷ []) (record { activity = some 0; original = pos 7; plan = [] } ∷ []) [] [] [] []
 
 pub own-parent : (depthOf circle 0 ≡ 2) × (distributedOf circle (some 0) ≡ pos 7) × (distributedOf circle none ≡ pos 0)
-unfolding depthOf distributedOf lineOwners hasLine currentOf budgetFor changes stepsMade walk steps parents isLeaf any span keep saturated
+unfolding depthOf distributedOf lineAccounts hasLine currentOf budgetFor changes names stepsMade walk steps parents isLeaf any span keep saturated
 own-parent = (refl, refl, refl)
 
 -- a change that was not approved gives a leaf a line, and no money
@@ -126,13 +127,13 @@ refused =
     (record { activity = some 0; amount = pos 9; status = NotApproved } ∷ record { activity = some 0; amount = pos 4; status = Pending } ∷ []) (pos 3 ∷ []) [] []
 
 pub refused-change :
-    (lineOwners refused ≡ 0 ∷ [])
+    (lineAccounts refused ≡ 0 ∷ [])
     × (currentOf refused (some 0) ≡ pos 0)
     × (proposedOf refused (some 0) ≡ pos 4)
     × (funded refused ≡ pos 3)
     × (notCovered refused ≡ negsuc 2)
 unfolding
-    lineOwners hasLine currentOf proposedOf funded notCovered budgetFor changes changeStatusNumber parents isLeaf any span keep saturated
+    lineAccounts hasLine currentOf proposedOf funded notCovered budgetFor changes names changeStatusNumber parents isLeaf any span keep saturated
 refused-change = (refl, refl, refl, refl, refl)
 
 -- ---- periods

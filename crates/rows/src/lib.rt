@@ -1,12 +1,27 @@
-// Rows of numbers in lent memory: one column at a time, and a number that may be absent.
+// Rows of numbers in lent memory: figures as they stand, one column at a time, and a number that may be absent.
 ghost use mathlib.Core.Path.{_≡_};
+ghost use mathlib.Core.List.{map};
 ghost use Prim.Native.Nat.{_+_, _*_, _≤_, _<_};
 ghost use lib.ListN.{length};
 ghost use lib.Seq.{sets};
 ghost use Rattle.fields.specs.Optional.{numberOption};
+ghost use Rattle.money.specs.Words.{bits};
 ghost use Rattle.rows.specs.Rows.{placed, optional};
 use fields::OptionalNumber;
 use money::words::to_bits;
+
+// Puts figures, row after row as they stand.
+pub fn put_numbers(figures: &[i64], out: &mut [u64])
+    requires { ⌜ length (now out) ≡ length (now figures) ⌝ }
+    ensures { λ r. ⌜ now (out .exit) ≡ map bits (now (figures .entry)) ⌝ }
+{
+    let mut i: usize = 0;
+    while i < figures.len() {
+        let x = figures[i];
+        out[i] = to_bits(x);
+        i += 1;
+    }
+}
 
 // Puts a column's figures into rows of `width` numbers, each as number `at` of its row.
 pub fn put_column(column: &[i64], width: usize, at: usize, out: &mut [u64])

@@ -1,6 +1,8 @@
 -- `open` meets its contract: what the layout says of an accepted book.
+use Prim.Native.Nat.{ℕ}
 use borrow.Author.Needs.{needs}
-use mathlib.Core.Path.{ap, sym, _∙_}
+use mathlib.Core.Path.{_≡_, ap, sym, _∙_}
+use mathlib.Core.Bool.{true, false}
 use native.Mathlib.Omega.{arith}
 use Rattle.book.proofs.Plan.{plan-of, ledger-of, technique-of, forecast-of}
 use Rattle.answers.proofs.open.open.Statement.{statement}
@@ -15,26 +17,36 @@ enum-told c = search needs
 enum-known-end : tie.Need-enum-known-end
 enum-known-end c = search needs
 
+-- a book that is refused is not accepted
+differ : {A : Type 0} → true ≡ false → A
+differ e = let z : _≡_ {A = ℕ} 0 1 = cc in absurd (omega arith)
+
 returns : tie.Need-returns
 returns c =
-    let told = c .before .before .before in
-    let known = told .before .before .before in
+    let known = c .before .before .before .before .before .before in
     let s = known .before .args .book .now in
-    let read = told .before .before .read-layout in
+    let read = c .before .before .before .before .before .read-layout in
     let layout = read .ensures .1 in
-    let accepted = sym (ap (λ v. v .1) (read .ensures .0)) ∙ told .enum-told .given .1 in
+    let accepted = sym (ap (λ v. v .1) (read .ensures .0)) ∙ c .enum-told .given .1 in
     record {
-      accepted = (_, accepted);
-      plan = plan-of s (read .result) layout _ accepted (λ i. omega (arith, known .shared-slice-known .given i));
-      ledger = ledger-of s (read .result) layout;
-      technique = technique-of s (read .result) layout;
-      forecast = forecast-of s (read .result) layout;
+      refuses = λ e. differ (sym e);
+      opens = λ e.
+          record {
+            accepted = (_, accepted);
+            plan = plan-of s (read .result) layout _ accepted (λ i. omega (arith, known .shared-slice-known .given i));
+            ledger = ledger-of s (read .result) layout;
+            technique = technique-of s (read .result) layout;
+            forecast = forecast-of s (read .result) layout;
+          };
     }
 
 returns-2 : tie.Need-returns-2
 returns-2 c =
-    let read = c .before .before .before .read-layout in
-    sym (ap (λ v. v .1) (read .ensures .0)) ∙ c .before .end .given .1
+    let read = c .before .before .before .before .before .before .read-layout in
+    record {
+      refuses = λ e. sym (ap (λ v. v .1) (read .ensures .0)) ∙ c .before .end .given .1;
+      opens = λ e. differ e;
+    }
 
 pub open-spec : {M : Type 1} → statement M
 open-spec = tie.close (tie.spec read-layout-requires enum-told enum-known-end returns returns-2)
