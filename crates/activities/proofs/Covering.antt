@@ -3,11 +3,16 @@ use Prim.Native.Nat.{ℕ, zero, suc, _+_, _≤_, _<_, min, max}
 use native.Mathlib.Omega.{arith}
 use native.Mathlib.Decide.{decLt}
 use mathlib.Core.Path.{_≡_, refl}
+use mathlib.Core.Bool.{Bool, true, false, cond}
 use mathlib.Core.List.{List}
-use lib.ListN.{length, getD, List·getD-eq-default}
+use lib.Dec.{ltb}
+use borrow.Author.Tests.{ltb-true, ltb-false}
 use Rattle.format.specs.InRange.{IsDate}
+use Rattle.model.specs.declared.Way.{Way}
+use Rattle.model.specs.declared.Way.the-variants.{Planned, Actual, Remaining}
 use Rattle.activities.specs.declared.Stretch.{Stretch}
-use Rattle.activities.specs.Stretches.{SpansInRange, Covers, widened}
+use Rattle.activities.specs.Schedule.{firstIn, lastIn}
+use Rattle.activities.specs.Stretches.{DatedSpans, CoversSpans, widened, widenedWays, closed}
 
 -- a span is within a stretch, where it has days
 pub record Within (r : Stretch) (first last : ℕ) : Type 0 where
@@ -15,12 +20,12 @@ pub record Within (r : Stretch) (first last : ℕ) : Type 0 where
   pub starts : 0 < first → first ≤ r .to
   pub ends : 0 < first → last ≤ r .to
 
-module _ (first last : List ℕ) where
+module _ (first last : ℕ → ℕ) where
   -- the first i spans are within the stretch
   pub record Covering (i : ℕ) (r : Stretch) : Type 0 where
     pub least : 10957 ≤ r .from
     pub most : r .to ≤ 47481
-    pub within : (j : ℕ) → j < i → Within r (getD first j 0) (getD last j 0)
+    pub within : (j : ℕ) → j < i → Within r (first j) (last j)
 
   pub covering-none : Covering 0 record { from = 47482; to = 10956 }
   covering-none = record { least = omega arith; most = omega arith; within = λ j h. absurd (omega arith) }
@@ -69,51 +74,83 @@ module _ (r : Stretch) (f l : ℕ) where
       go zero d = h
       go (suc n) d = let x : suc n ≤ 47481 = d (omega arith) .last in omega arith
 
-module _ {first last : List ℕ} {i : ℕ} {r : Stretch} (w : Covering first last i r) where
-  pub covering-more : SpansInRange first last → {q : Stretch} → q ≡ widened r (getD first i 0) (getD last i 0) → Covering first last (i + 1) q
-  covering-more s {q} e =
-      let f = getD first i 0 in
-      let l = getD last i 0 in
+module _ {first last : ℕ → ℕ} {i : ℕ} {r : Stretch} (w : Covering first last i r) where
+  -- any span of the book's dates may be taken in
+  pub covering-still : {q : Stretch} (x y : ℕ) → (0 < x → IsDate x) → y ≤ 47481 → q ≡ widened r x y → Covering first last i q
+  covering-still {q} x y d l e =
       rw e
       record {
-        least = widened-least r f l (w .least) (s .begins i);
-        most = widened-most r f l (w .most) (s .begins i) (s .ends i);
+        least = widened-least r x y (w .least) d;
+        most = widened-most r x y (w .most) d l;
+        within = λ j h. widened-still r x y (first j) (last j) (w .within j h);
+      }
+
+  pub covering-more : DatedSpans first last → {q : Stretch} → q ≡ widened r (first i) (last i) → Covering first last (i + 1) q
+  covering-more s {q} e =
+      rw e
+      record {
+        least = widened-least r (first i) (last i) (w .least) (s .begins i);
+        most = widened-most r (first i) (last i) (w .most) (s .begins i) (s .ends i);
         within = λ j h. go j h (decLt j i);
       }
     where
-      go : (j : ℕ) → j < i + 1 → Dec (j < i) → Within (widened r (getD first i 0) (getD last i 0)) (getD first j 0) (getD last j 0)
-      go j h (yes k) = widened-still r (getD first i 0) (getD last i 0) (getD first j 0) (getD last j 0) (w .within j k)
-      go j h (no k) = let z : j ≡ i = omega arith in rw z (widened-one r (getD first i 0) (getD last i 0))
+      go : (j : ℕ) → j < i + 1 → Dec (j < i) → Within (widened r (first i) (last i)) (first j) (last j)
+      go j h (yes k) = widened-still r (first i) (last i) (first j) (last j) (w .within j k)
+      go j h (no k) = let z : j ≡ i = omega arith in rw z (widened-one r (first i) (last i))
 
-  -- past the end no span has days
-  all-within : length first ≤ i → (j : ℕ) → 0 < getD first j 0 → Within r (getD first j 0) (getD last j 0)
-  all-within h j k = go (decLt j i)
-    where
-      go : Dec (j < i) → Within r (getD first j 0) (getD last j 0)
-      go (yes l) = w .within j l
-      go (no l) = let z : getD first j 0 ≡ 0 = List·getD-eq-default first 0 {n = j} (omega arith) in absurd (omega arith)
+  -- where no span past these has days, all are covered
+  module _ (past : (j : ℕ) → i ≤ j → first j ≡ 0) where
+    all-within : (j : ℕ) → 0 < first j → Within r (first j) (last j)
+    all-within j k = go (decLt j i)
+      where
+        go : Dec (j < i) → Within r (first j) (last j)
+        go (yes l) = w .within j l
+        go (no l) = absurd (omega (arith, past j (omega arith)))
 
-  pub covers-all : length first ≤ i → r .from ≤ r .to → Covers first last r
-  covers-all h a =
-      record {
-        least = w .least;
-        most = w .most;
-        ahead = omega arith;
-        begins = λ j k. all-within h j k .begins k;
-        starts = λ j k. all-within h j k .starts k;
-        ends = λ j k. all-within h j k .ends k;
-      }
+    covers-all : r .from ≤ r .to → CoversSpans first last r
+    covers-all a =
+        record {
+          least = w .least;
+          most = w .most;
+          ahead = omega arith;
+          begins = λ j k. all-within j k .begins k;
+          starts = λ j k. all-within j k .starts k;
+          ends = λ j k. all-within j k .ends k;
+        }
 
-  empty : length first ≤ i → r .to < r .from → (j : ℕ) → 0 < getD first j 0 → ⊥
-  empty h a j k = omega (arith, all-within h j k .begins k, all-within h j k .starts k)
+    empty : r .to < r .from → (j : ℕ) → 0 < first j → ⊥
+    empty a j k = omega (arith, all-within j k .begins k, all-within j k .starts k)
 
-  pub covers-none : length first ≤ i → r .to < r .from → Covers first last record { from = 10957; to = 10956 }
-  covers-none h a =
-      record {
-        least = omega arith;
-        most = omega arith;
-        ahead = omega arith;
-        begins = λ j k. absurd (empty h a j k);
-        starts = λ j k. absurd (empty h a j k);
-        ends = λ j k. absurd (empty h a j k);
-      }
+    covers-none : r .to < r .from → CoversSpans first last record { from = 10957; to = 10956 }
+    covers-none a =
+        record {
+          least = omega arith;
+          most = omega arith;
+          ahead = omega arith;
+          begins = λ j k. absurd (empty a j k);
+          starts = λ j k. absurd (empty a j k);
+          ends = λ j k. absurd (empty a j k);
+        }
+
+    pub covers-closed : {q : Stretch} → q ≡ closed r → CoversSpans first last q
+    unfolding closed
+    covers-closed {q} e = rw e (go (ltb (r .to) (r .from)) refl)
+      where
+        go : (b : Bool) → ltb (r .to) (r .from) ≡ b → CoversSpans first last (cond b record { from = 10957; to = 10956 } r)
+        go true f = covers-none (omega (arith, ltb-true (r .to) (r .from) f))
+        go false f = covers-all (omega (arith, ltb-false (r .to) (r .from) f))
+
+-- ---- the spans of a schedule, all three ways
+
+module _ (schedule : List ℕ) (dated : (way : Way) → DatedSpans (firstIn schedule way) (lastIn schedule way)) {i : ℕ} {r : Stretch}
+    (w : (way : Way) → Covering (firstIn schedule way) (lastIn schedule way) i r)
+  where
+    still :
+        (way : Way) {f l : ℕ → ℕ} {j : ℕ} {x y : Stretch} → Covering f l j x → y ≡ widened x (firstIn schedule way i) (lastIn schedule way i) → Covering f l j y
+    still way v e = covering-still v (firstIn schedule way i) (lastIn schedule way i) (dated way .begins i) (dated way .ends i) e
+
+    pub covering-ways : {q : Stretch} → q ≡ widenedWays schedule i r → (way : Way) → Covering (firstIn schedule way) (lastIn schedule way) (i + 1) q
+    unfolding widenedWays
+    covering-ways e Planned = still Remaining (still Actual (covering-more (w Planned) (dated Planned) refl) refl) e
+    covering-ways e Actual = still Remaining (covering-more (still Planned (w Actual) refl) (dated Actual) refl) e
+    covering-ways e Remaining = covering-more (still Actual (still Planned (w Remaining) refl) refl) (dated Remaining) e

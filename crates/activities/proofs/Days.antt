@@ -1,13 +1,12 @@
 -- The spans of an accepted book are dates, and their day lists are the activities' days.
 use Prim.Native.Nat.{ℕ, zero, suc, _≤_, _<_, min, max}
 use native.Mathlib.Omega.{arith}
-use native.Mathlib.Decide.{decLt}
 use mathlib.Core.Path.{_≡_, refl, sym}
 use mathlib.Core.Bool.{Bool, true, false, cond}
 use mathlib.Core.Logic.{⊎-elim}
-use mathlib.Core.List.{List, [], _∷_, map, List·Memᴰ, List·Memᴰ·not-nil, List·Memᴰ·cases-cons}
+use mathlib.Core.List.{List, [], _∷_, List·Memᴰ, List·Memᴰ·not-nil, List·Memᴰ·cases-cons}
 use mathlib.Core.Option.{Option, none, some, Option·getD, orElse}
-use lib.ListN.{length, getD, length-map, List·getD-eq-default}
+use lib.ListN.{length}
 use Rattle.format.specs.declared.Status.{Status}
 use Rattle.format.specs.declared.Status.the-variants.{NotStarted, InProgress, Completed}
 use Rattle.format.specs.Inverse.{Given}
@@ -19,10 +18,9 @@ use Rattle.model.specs.Lookup.{noActivity, activityAt}
 use Rattle.model.specs.Calendar.{calendarOf}
 use Rattle.model.proofs.Days.{working-days}
 use Rattle.model.specs.Days.{workingDays, orAlone, dayList, isStarted, actualTo, plannedDays, daysSince, actualDays, remainingFrom, daysLeft, remainingDays, daysOf}
-use Rattle.tree.proofs.Walks.{at-map}
 use Rattle.activities.specs.Columns.{actualFrom, remainingSince, firstDate, lastDate, daysIn}
 use Rattle.activities.specs.declared.Stretch.{Stretch}
-use Rattle.activities.specs.Stretches.{SpansInRange, Covers}
+use Rattle.activities.specs.Stretches.{CoversSpans}
 
 -- ---- spans are of the book's dates
 
@@ -79,22 +77,6 @@ module _ {calendars activities : ℕ} {a : Activity} (r : ActivityInRange calend
   last-in-range Planned = r .earlyFinish .last
   last-in-range Actual = to-last (a .actualFinish) date (actualFrom a) (r .actualFinish) h actual-date
   last-in-range Remaining = r .earlyFinish .last
-
--- of every activity, where past the end there is nothing
-column : (P : ℕ → Type 0) (f : Activity → ℕ) (l : List Activity) → P 0 → Every (λ (a : Activity). P (f a)) l → (i : ℕ) → P (getD (map f l) i 0)
-column P f l z e i = go (decLt i (length l))
-  where
-    go : Dec (i < length l) → P (getD (map f l) i 0)
-    go (yes h) = rw (at-map f l i noActivity 0 h) (e i noActivity h)
-    go (no h) = let past : getD (map f l) i 0 ≡ 0 = List·getD-eq-default (map f l) 0 {n = i} (omega (arith, length-map l f)) in rw past z
-
-pub spans-in-range :
-    (b : Book) → InRange b → (way : Way) → SpansInRange (map (firstDate (b .dataDate) way) (b .activities)) (map (lastDate (b .dataDate) way) (b .activities))
-spans-in-range b r way =
-    record {
-      begins = column NoneOrDate (firstDate (b .dataDate) way) (b .activities) (λ h. absurd (omega arith)) (λ k d h. first-in-range (r .activities k d h) (b .dataDate) (r .dataDate) way);
-      ends = column (λ (d : ℕ). d ≤ 47481) (lastDate (b .dataDate) way) (b .activities) (omega arith) (λ k d h. last-in-range (r .activities k d h) (b .dataDate) (r .dataDate) way);
-    }
 
 -- ---- their day lists
 
@@ -153,15 +135,15 @@ alone-within P from [] z h d m = ⊎-elim (λ e. rw e z) (λ r. absurd (List·Me
 alone-within P from (x ∷ xs) z h d m = h d m
 
 pub days-covered :
-    {first last : List ℕ} {r : Stretch} → Covers first last r → (c : Calendar) (i d : ℕ) → List·Memᴰ d (daysIn c (getD first i 0) (getD last i 0)) →
+    {first last : ℕ → ℕ} {r : Stretch} → CoversSpans first last r → (c : Calendar) (i d : ℕ) → List·Memᴰ d (daysIn c (first i) (last i)) →
     (r .from ≤ d) × (d ≤ r .to)
 unfolding daysIn dayList
-days-covered {first} {last} {r} w c i d m = go (getD first i 0) (w .begins i) (w .starts i) (w .ends i) m
+days-covered {first} {last} {r} w c i d m = go (first i) (w .begins i) (w .starts i) (w .ends i) m
   where
     go :
-        (f : ℕ) → (0 < f → r .from ≤ f) → (0 < f → f ≤ r .to) → (0 < f → getD last i 0 ≤ r .to) → List·Memᴰ d (daysIn c f (getD last i 0)) →
+        (f : ℕ) → (0 < f → r .from ≤ f) → (0 < f → f ≤ r .to) → (0 < f → last i ≤ r .to) → List·Memᴰ d (daysIn c f (last i)) →
         (r .from ≤ d) × (d ≤ r .to)
     go zero x y z m = absurd (List·Memᴰ·not-nil m)
     go (suc f) x y z m =
-        alone-within (λ (e : ℕ). (r .from ≤ e) × (e ≤ r .to)) (suc f) (workingDays c (suc f) (getD last i 0)) (x (omega arith), y (omega arith))
-        (λ e n. let k = working-days c (suc f) (getD last i 0) e .0 n in (omega (arith, x (omega arith)), omega (arith, z (omega arith)))) d m
+        alone-within (λ (e : ℕ). (r .from ≤ e) × (e ≤ r .to)) (suc f) (workingDays c (suc f) (last i)) (x (omega arith), y (omega arith))
+        (λ e n. let k = working-days c (suc f) (last i) e .0 n in (omega (arith, x (omega arith)), omega (arith, z (omega arith)))) d m

@@ -1,7 +1,8 @@
 pub mod Dates
+pub mod Rows
 pub mod Covering
 pub mod Days
-pub mod Threes
 pub mod Leaves
-pub mod Plans
+pub mod Scheduling
+pub mod Marking
 pub mod Lending

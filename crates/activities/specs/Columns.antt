@@ -1,4 +1,4 @@
--- What the columns of the activities hold: one number for each activity.
+-- The numbers of an activity: its parent, its calendar, the spans of its days.
 use Prim.Native.Nat.{ℕ, zero, suc, min, max}
 use mathlib.Core.Bool.{cond}
 use mathlib.Core.List.{List, []}

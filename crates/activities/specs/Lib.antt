@@ -1,3 +1,4 @@
 pub mod Columns
+pub mod Schedule
 pub mod Stretches
 pub mod Ways

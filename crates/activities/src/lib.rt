@@ -1,5 +1,6 @@
-// Columns of the activities, one number for each of them: parents, calendars, the spans of their days; and the stretch of dates that the spans take.
+// The activities after the verdict: their schedule, columns of them, and the stretch of dates that their spans take.
 pub mod columns;
+pub mod schedule;
 pub mod spans;
 pub mod stretches;
 pub mod ways;

@@ -1,9 +1,14 @@
 // The stretch of dates that the spans of the activities take.
 use crate::Stretch;
+use crate::schedule::WIDTH;
 ghost use mathlib.Core.Path.{_≡_};
-ghost use Prim.Native.Nat.{min, max};
-ghost use lib.ListN.{length};
-ghost use Rattle.activities.specs.Stretches.{SpansInRange, Covers, widened};
+ghost use Prim.Native.Nat.{_+_, _*_, _<_, min, max};
+ghost use lib.ListN.{length, getD};
+ghost use Rattle.format.specs.Book.{Book};
+ghost use Rattle.format.specs.InRange.{InRange};
+ghost use Rattle.model.specs.declared.Way.{Way};
+ghost use Rattle.activities.specs.Schedule.{scheduleOf, firstIn, lastIn};
+ghost use Rattle.activities.specs.Stretches.{DatedSpans, CoversSpans, widened, widenedWays, closed};
 
 // The earlier of two dates.
 pub fn earlier(a: u64, b: u64) -> u64
@@ -20,7 +25,7 @@ pub fn later(a: u64, b: u64) -> u64
 }
 
 // The stretch with one more span, which has no dates where its first is 0.
-fn widen(known: Stretch, first: u64, last: u64) -> Stretch
+pub fn widen(known: Stretch, first: u64, last: u64) -> Stretch
     ensures { λ r. ⌜ r ≡ widened known first last ⌝ }
 {
     if first == 0 {
@@ -33,21 +38,10 @@ fn widen(known: Stretch, first: u64, last: u64) -> Stretch
     }
 }
 
-// From the first date of all spans to the last of all.
-pub fn stretch(first: &[u64], last: &[u64]) -> Stretch
-    requires { ⌜ length (now last) ≡ length (now first) ⌝ }
-    requires { ⌜ SpansInRange (now first) (now last) ⌝ }
-    ensures { λ r. ⌜ Covers (now (first .entry)) (now (last .entry)) r ⌝ }
+// The stretch once all spans are taken: of no dates where none had any.
+pub fn close(known: Stretch) -> Stretch
+    ensures { λ r. ⌜ r ≡ closed known ⌝ }
 {
-    let mut known = Stretch {
-        from: 47482,
-        to: 10956,
-    };
-    let mut i = 0;
-    while i < first.len() {
-        known = widen(known, first[i], last[i]);
-        i += 1;
-    }
     if known.to < known.from {
         return Stretch {
             from: 10957,
@@ -55,4 +49,51 @@ pub fn stretch(first: &[u64], last: &[u64]) -> Stretch
         };
     }
     known
+}
+
+// From the first date of all spans to the last of all, in a table of n rows: of each a first date at a place, and a last one behind it.
+pub fn stretch_of(table: &[u64], n: usize, width: usize, at: usize) -> Stretch
+    requires { ⌜ (length (now table) ≡ n * width) × (at + 1 < width) ⌝ }
+    requires { ⌜ DatedSpans (λ i. getD (now table) (i * width + at) 0) (λ i. getD (now table) (i * width + at + 1) 0) ⌝ }
+    ensures { λ r. ⌜ CoversSpans (λ i. getD (now (table .entry)) (i * width + at) 0) (λ i. getD (now (table .entry)) (i * width + at + 1) 0) r ⌝ }
+{
+    let mut known = Stretch {
+        from: 47482,
+        to: 10956,
+    };
+    let mut i = 0;
+    while i < n {
+        let k = i * width + at;
+        known = widen(known, table[k], table[k + 1]);
+        i += 1;
+    }
+    close(known)
+}
+
+// The stretch with the spans of an activity of the schedule, three ways.
+fn widen_ways(schedule: &[u64], i: usize, known: Stretch) -> Stretch
+    requires { ⌜ i * 13 + 12 < length (now schedule) ⌝ }
+    ensures { λ r. ⌜ r ≡ widenedWays (now (schedule .entry)) i known ⌝ }
+{
+    let k = i * WIDTH;
+    let planned = widen(known, schedule[k + 2], schedule[k + 3]);
+    let actual = widen(planned, schedule[k + 4], schedule[k + 5]);
+    widen(actual, schedule[k + 6], schedule[k + 7])
+}
+
+// From the first date of the spans of a schedule, of all three ways, to the last.
+pub fn stretch_all(schedule: &[u64]) -> Stretch
+    ensures { λ r. ⌜ ((book : Book) → InRange book → now (schedule .entry) ≡ scheduleOf book → (way : Way) → CoversSpans (firstIn (now (schedule .entry)) way) (lastIn (now (schedule .entry)) way) r) ⌝ }
+{
+    let n = schedule.len() / WIDTH;
+    let mut known = Stretch {
+        from: 47482,
+        to: 10956,
+    };
+    let mut i = 0;
+    while i < n {
+        known = widen_ways(schedule, i, known);
+        i += 1;
+    }
+    close(known)
 }

@@ -1,1 +1,2 @@
 pub mod Assigning
+pub mod Expensing

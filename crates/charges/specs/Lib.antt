@@ -1,1 +1,2 @@
 pub mod Assigned
+pub mod Expensed

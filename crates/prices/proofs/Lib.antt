@@ -5,3 +5,4 @@ pub mod Shares
 pub mod Stretches
 pub mod Calendars
 pub mod Columns
+pub mod Rated

@@ -1,4 +1,11 @@
 pub mod Walks
 pub mod Rolled
+pub mod Spans
 pub mod Rows
+pub mod Adding
+pub mod Climbing
+pub mod Rolling
+pub mod RolledRows
+pub mod Columns
 pub mod Leaves
+pub mod Figured

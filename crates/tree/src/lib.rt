@@ -6,6 +6,8 @@ ghost use Rattle.model.specs.Tree.{walk, stepsMade};
 ghost use Rattle.tree.specs.Figures.{parentsOf, addAt, addAlong, rolledUp, unmarkedSum};
 use money::sums::saturating_add;
 
+pub mod table;
+
 // The amount is added to the figure of an index; where there is none, nothing is.
 fn add_at(index: u64, amount: i64, out: &mut [i64])
     ensures { λ r. ⌜ now (out .exit) ≡ addAt amount (now (out .entry)) index ⌝ }
@@ -45,8 +47,20 @@ pub fn walk_up(parents: &[u64], from: usize, limit: u64) -> u64
     requires { ⌜ from < length (now parents) ⌝ }
     ensures { λ r. ⌜ r ≡ stepsMade (parentsOf (now (parents .entry))) limit from ⌝ }
 {
-    let mut nothing = [0i64; 0];
-    add_up(parents, from, limit, 0, &mut nothing)
+    let count = parents.len() as u64;
+    let mut at = parents[from];
+    let mut made: u64 = 0;
+    let steps = loop {
+        if limit <= made {
+            break made;
+        }
+        if count <= at {
+            break made;
+        }
+        at = parents[at as usize];
+        made += 1;
+    };
+    steps
 }
 
 fn copy(from: &[i64], to: &mut [i64])

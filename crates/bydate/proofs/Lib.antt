@@ -1,0 +1,12 @@
+pub mod Dates
+pub mod Laying
+pub mod Dealing
+pub mod Pointing
+pub mod Writing
+pub mod Showing
+pub mod Falling
+pub mod Each
+pub mod Arrays
+pub mod MonthDays
+pub mod Grouping
+pub mod Monthly

@@ -1,0 +1,5 @@
+pub mod Listed
+pub mod Laid
+pub mod Dealt
+pub mod Pointed
+pub mod Months
