@@ -1,4 +1,4 @@
-pub mod Entries
-pub mod Lines
-pub mod Baselines
-pub mod Own
+pub mod Shares
+pub mod Adding
+pub mod Measuring
+pub mod Dating

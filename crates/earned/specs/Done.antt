@@ -1,58 +1,50 @@
--- How much of an activity is done, from what it says itself and from the units of its assignments.
+-- How much of an activity is done, from what the schedule says of it and from the units of its assignments.
 use Prim.Native.Nat.{ℕ}
-use mathlib.Core.Bool.{Bool, true, false, cond}
-use lib.IntN.{ℤ, pos, _+ℤ_}
+use mathlib.Core.List.{List}
+use mathlib.Core.Option.{Option, Option·getD}
+use lib.IntN.{ℤ, pos, _-ℤ_}
 use lib.Ieee.{Float}
-use mir.Syntax.{w64}
-use Rattle.integer.specs.Clamp.{clamp}
 use Rattle.floats.specs.Figures.{nought, one, ratioOf, clamp01Of, shareOf}
 use Rattle.format.specs.declared.Status.{Status}
 use Rattle.format.specs.declared.Status.the-variants.{NotStarted, InProgress, Completed}
 use Rattle.format.specs.declared.EvTechnique.{EvTechnique}
 use Rattle.format.specs.declared.EvTechnique.the-variants.{Physical, Duration, Units, ZeroHundred, FiftyFifty, Custom}
-use Rattle.format.specs.Book.{Activity, Assignment}
-use Rattle.model.specs.Earned.{half, valueOr, byPercent, byDuration, unstarted}
+use Rattle.format.specs.Enumeration.{statusOf}
+use Rattle.model.specs.Earned.{half, valueOr}
+use Rattle.activities.specs.Schedule.{percentOf, entryAt}
 
--- ---- of one activity, with its units done and in all
+-- the percent complete that was judged; 0 without one
+abbrev pub byJudgement : Option ℤ → Float
+byJudgement percent = shareOf (Option·getD percent (pos 0))
 
--- while the work is under way
-abbrev pub doneUnderWay : EvTechnique → ℤ → ℤ → Activity → Float
-doneUnderWay Physical done all a = byPercent a
-doneUnderWay Duration done all a = clamp01Of (byDuration a)
-doneUnderWay Units done all a = clamp01Of (valueOr (ratioOf done all) (byDuration a))
-doneUnderWay ZeroHundred done all a = nought
-doneUnderWay FiftyFifty done all a = half
-doneUnderWay (Custom share) done all a = shareOf share
+-- the minutes worked, of all; 0 where there are none
+abbrev pub byMinutes : ℕ → ℕ → Float
+byMinutes working remaining = valueOr (ratioOf (pos working -ℤ pos remaining) (pos working)) nought
 
-abbrev pub doneAt : EvTechnique → ℤ → ℤ → Activity → Status → Float
-doneAt technique done all a NotStarted = unstarted a technique
-doneAt technique done all a InProgress = doneUnderWay technique done all a
-doneAt technique done all a Completed = one
+-- before the work is marked started
+abbrev pub unstartedBy : EvTechnique → Option ℤ → Float
+unstartedBy Physical percent = byJudgement percent
+unstartedBy Duration percent = nought
+unstartedBy Units percent = nought
+unstartedBy ZeroHundred percent = nought
+unstartedBy FiftyFifty percent = nought
+unstartedBy (Custom share) percent = nought
 
-unfoldable pub shareDone : EvTechnique → ℤ → ℤ → Activity → Float
-shareDone technique done all a = doneAt technique done all a (a .status)
+-- while it is under way, with the units done and in all
+abbrev pub underWayBy : EvTechnique → Option ℤ → ℕ → ℕ → ℤ → ℤ → Float
+underWayBy Physical percent working remaining done all = byJudgement percent
+underWayBy Duration percent working remaining done all = clamp01Of (byMinutes working remaining)
+underWayBy Units percent working remaining done all = clamp01Of (valueOr (ratioOf done all) (byMinutes working remaining))
+underWayBy ZeroHundred percent working remaining done all = nought
+underWayBy FiftyFifty percent working remaining done all = half
+underWayBy (Custom share) percent working remaining done all = shareOf share
 
--- ---- units
+abbrev pub doneBy : EvTechnique → Option ℤ → ℕ → ℕ → ℤ → ℤ → Status → Float
+doneBy technique percent working remaining done all NotStarted = unstartedBy technique percent
+doneBy technique percent working remaining done all InProgress = underWayBy technique percent working remaining done all
+doneBy technique percent working remaining done all Completed = one
 
-abbrev pub isUnits : EvTechnique → Bool
-isUnits Physical = false
-isUnits Duration = false
-isUnits Units = true
-isUnits ZeroHundred = false
-isUnits FiftyFifty = false
-isUnits (Custom share) = false
-
--- units count for one technique only; for the others the columns hold 0
-abbrev pub ifUnits : EvTechnique → ℤ → ℤ
-ifUnits technique z = cond (isUnits technique) z (pos 0)
-
--- the activity of an assignment
-abbrev pub assigned : Assignment → ℕ
-assigned x = x .activity
-
--- a sum with an assignment added: the units done, and those with the ones that remain
-abbrev pub plusDone : ℤ → Assignment → ℤ
-plusDone sum x = clamp w64 (sum +ℤ x .actual)
-
-abbrev pub plusAll : ℤ → Assignment → ℤ
-plusAll sum x = clamp w64 (plusDone sum x +ℤ x .remaining)
+-- of activity i of the schedule
+unfoldable pub doneIn : EvTechnique → List ℕ → ℕ → ℤ → ℤ → Float
+doneIn technique schedule i done all =
+    doneBy technique (percentOf (entryAt schedule i 11) (entryAt schedule i 12)) (entryAt schedule i 9) (entryAt schedule i 10) done all (statusOf (entryAt schedule i 8))

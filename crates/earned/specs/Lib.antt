@@ -1,4 +1,3 @@
-pub mod Listed
 pub mod Done
-pub mod Own
-pub mod Columns
+pub mod Measured
+pub mod Units

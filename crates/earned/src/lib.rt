@@ -1,7 +1,5 @@
-// Earned value: the budgets that the baseline froze, the spans over which they are planned, how much of each activity is done.
-pub mod budgets;
-pub mod columns;
-pub mod listed;
+// Earned value: how much of each activity is done, by the technique of the book, and the activities' own figures at a date.
+pub mod dated;
+pub mod measured;
 pub mod performance;
 pub mod units;
-pub mod value;

@@ -1,4 +1,4 @@
-// The units of the activities' assignments: those done, and those with the ones that remain.
+// The units of the activities' assignments: of each those done, and those with the ones that remain.
 use book::Section;
 use book::layout::Plan;
 use fields::OptionalNumber;
@@ -6,22 +6,21 @@ use format::EvTechnique;
 use money::sums::saturating_add;
 use records::activities::Assignment;
 use records::activities::read_assignment;
-ghost use Prim.Native.Nat.{ℕ, _≤_, _<_};
+ghost use Prim.Native.Nat.{ℕ, _+_, _*_, _<_};
 ghost use mathlib.Core.Path.{_≡_};
-ghost use mathlib.Core.List.{foldl};
+ghost use mathlib.Core.List.{List};
 ghost use lib.IntN.{pos};
-ghost use lib.ListN.{length};
+ghost use lib.ListN.{length, getD};
+ghost use Rattle.format.specs.Format as layout;
+ghost use Rattle.format.specs.InRange.{Every, AssignmentInRange};
 ghost use Rattle.format.specs.Verdict.{content};
 ghost use Rattle.records.specs.Decoded.{assignmentOf};
+ghost use Rattle.book.specs.Sections.{alikeIn};
 ghost use Rattle.book.specs.Plan.{IsPlanOf};
-ghost use Rattle.model.specs.Earned.{unitsDone, unitsInAll};
-ghost use Rattle.tree.specs.Figures.{figureOf};
-ghost use Rattle.costs.specs.Columns.{changedAt};
-ghost use Rattle.costs.specs.Arguments.{IsAssignments};
-ghost use Rattle.earned.specs.Done.{isUnits, ifUnits, assigned, plusDone, plusAll};
+ghost use Rattle.earned.specs.Units as units;
 
 fn counts_units(technique: EvTechnique) -> bool
-    ensures { λ r. ⌜ r ≡ isUnits technique ⌝ }
+    ensures { λ r. ⌜ r ≡ units.isUnits technique ⌝ }
 {
     match technique {
         EvTechnique::Physical => false,
@@ -34,64 +33,54 @@ fn counts_units(technique: EvTechnique) -> bool
 }
 
 // An assignment's units are added to those of its activity.
-fn add_units(x: Assignment, done: &mut [i64], all: &mut [i64])
-    requires { ⌜ (x .activity < length (now done)) × (x .activity < length (now all)) ⌝ }
-    ensures done { λ r. ⌜ now (done .exit) ≡ changedAt assigned plusDone (now (done .entry)) (assignmentOf x) ⌝ }
-    ensures all { λ r. ⌜ now (all .exit) ≡ changedAt assigned plusAll (now (all .entry)) (assignmentOf x) ⌝ }
+fn add_units(x: Assignment, out: &mut [i64])
+    requires { ⌜ x .activity * 2 + 1 < length (now out) ⌝ }
+    ensures { λ r. ⌜ now (out .exit) ≡ units.added (now (out .entry)) (assignmentOf x) ⌝ }
 {
-    let i = x.activity as usize;
-    let worked = done[i];
-    let total = all[i];
-    done[i] = saturating_add(worked, x.actual);
+    let at = x.activity as usize * 2;
+    let worked = out[at];
+    let total = out[at + 1];
+    out[at] = saturating_add(worked, x.actual);
     let more = saturating_add(total, x.actual);
-    all[i] = saturating_add(more, x.remaining);
+    out[at + 1] = saturating_add(more, x.remaining);
 }
 
-// Each assignment in the book's order.
-fn add_assignments(
-    book: &[u8],
-    list: Section,
-    activities: u64,
-    resources: u64,
-    done: &mut [i64],
-    all: &mut [i64],
-)
-    requires { ⌜ IsAssignments (now book) list activities resources ⌝ }
-    requires { ⌜ (activities ≤ length (now done)) × (activities ≤ length (now all)) ⌝ }
-    ensures done { λ r. ⌜ now (done .exit) ≡ foldl (changedAt assigned plusDone) (now (done .entry)) (content (now (book .entry)) .assignments) ⌝ }
-    ensures all { λ r. ⌜ now (all .exit) ≡ foldl (changedAt assigned plusAll) (now (all .entry)) (content (now (book .entry)) .assignments) ⌝ }
+// Each assignment in the book's order, into a table of zeros.
+fn add_assignments(book: &[u8], list: Section, activities: u64, resources: u64, out: &mut [i64])
+    requires { ⌜ Every (AssignmentInRange activities resources) (alikeIn (layout.assignment activities resources) (now book) list) ⌝ }
+    requires { ⌜ (length (now out) ≡ activities * 2) × ((k : ℕ) → getD (now out) k (pos 0) ≡ pos 0) ⌝ }
+    ensures { λ r. ⌜ units.Summed (alikeIn (layout.assignment activities resources) (now (book .entry)) list) activities (now (out .exit)) ⌝ }
 {
     let count = list.count;
     let mut next = list.first;
     let mut i: u64 = 0;
     while i < count {
         let x = read_assignment(book, next, activities, resources);
-        add_units(x, done, all);
+        add_units(x, out);
         next = x.next;
         i += 1;
     }
 }
 
-// The units done and in all of each activity, into columns of zeros, where the technique counts them.
+// The units done and in all of each activity, into a table of zeros, where the technique counts them.
 pub fn fill_units(
     book: &[u8],
-    date: OptionalNumber,
+    data_date: OptionalNumber,
     plan: Plan,
     technique: EvTechnique,
-    done: &mut [i64],
-    all: &mut [i64],
+    out: &mut [i64],
 )
-    requires { ⌜ IsPlanOf (now book) date plan ⌝ }
-    requires { ⌜ (plan .activities .count ≤ length (now done)) × (plan .activities .count ≤ length (now all)) ⌝ }
-    requires { ⌜ ((i : ℕ) → figureOf (now done) i ≡ pos 0) × ((i : ℕ) → figureOf (now all) i ≡ pos 0) ⌝ }
-    ensures done { λ r. ⌜ ((i : ℕ) → i < plan .activities .count → figureOf (now (done .exit)) i ≡ ifUnits technique (unitsDone (content (now (book .entry))) i)) ⌝ }
-    ensures all { λ r. ⌜ ((i : ℕ) → i < plan .activities .count → figureOf (now (all .exit)) i ≡ ifUnits technique (unitsInAll (content (now (book .entry))) i)) ⌝ }
+    requires { ⌜ IsPlanOf (now book) data_date plan ⌝ }
+    requires { ⌜ (length (now out) ≡ plan .activities .count * 2) × ((k : ℕ) → getD (now out) k (pos 0) ≡ pos 0) ⌝ }
+    ensures { λ r. ⌜ units.AreUnits (content (now (book .entry))) technique (now (out .exit)) ⌝ }
 {
     if counts_units(technique) {
-        let activities = plan.activities;
-        let resources = plan.resources;
-        let list = plan.assignments;
-        add_assignments(book, list, activities.count, resources.count, done, all);
-        return;
+        add_assignments(
+            book,
+            plan.assignments,
+            plan.activities.count,
+            plan.resources.count,
+            out,
+        );
     }
 }

@@ -11,7 +11,7 @@ use Rattle.model.specs.declared.Indices.{Indices}
 use Rattle.model.specs.Forecast.{indicesOf}
 use Rattle.rows.specs.Rows.{optional}
 use Rattle.rows.proofs.Sets.{sets-on, sets-whole, optional-two}
-use Rattle.forecast.specs.Rows.{estimatesRow, indexBits, indicesRow, forecastRow}
+use Rattle.answers.specs.Rows.{estimatesRow, indexBits, indicesRow, forecastRow}
 
 module _ (x : Indices) where
   abbrev b : List ℕ

@@ -17,7 +17,7 @@ ghost use lib.ListN.{length};
 ghost use lib.Seq.{sets};
 ghost use Rattle.model.specs.Forecast as definition;
 ghost use Rattle.fields.specs.Optional.{numberOption};
-ghost use Rattle.forecast.specs.Rows.{estimatesRow, indexBits, indicesRow, forecastRow};
+ghost use Rattle.answers.specs.Rows.{estimatesRow, indexBits, indicesRow, forecastRow};
 
 // The budget still to earn.
 fn to_earn(e: Earned) -> i64

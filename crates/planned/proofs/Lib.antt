@@ -1,4 +1,4 @@
 pub mod Portions
+pub mod Reaching
 pub mod Replacing
 pub mod Settling
-pub mod Figures

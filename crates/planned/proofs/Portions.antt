@@ -1,34 +1,31 @@
 -- What of an amount over a span is planned by a date: before the span nothing, once it has ended all, else by the count of its working dates.
 use Prim.Native.Nat.{ℕ, zero, suc, _+_, _-_, _≤_, _<_, min}
 use mathlib.Core.Path.{_≡_, refl, sym, ap, ap₂, _∙_}
-use mathlib.Core.Bool.{Bool, true, false, cond}
-use mathlib.Core.List.{List, zipWith}
+use mathlib.Core.Bool.{Bool, true, false, true≢false, not, cond, _&&_}
+use mathlib.Core.List.{List}
 use native.Mathlib.Omega.{arith}
-use borrow.Author.Tests.{lt-ltb, le-ltb, le-leb, lt-leb}
+use borrow.Author.Tests.{lt-ltb, le-ltb, le-leb, lt-leb, leb-true, leb-false, ltb-true, ltb-false}
 use lib.Dec.{ltb, leb}
-use lib.IntN.{ℤ, pos, natAbs}
+use lib.IntN.{ℤ, pos, negsuc, natAbs}
 use lib.ListN.{length}
 use mir.Syntax.{w64}
 use mir.Val.{SFits}
 use Rattle.integer.specs.Signs.{like}
 use Rattle.integer.specs.Sums.{ints, sum}
-use Rattle.integer.specs.Folds.{saturated}
 use Rattle.money.specs.Shares.{shareOf}
 use Rattle.money.proofs.Spread.{extra, parts, parts-le, sum-like, shares-all}
+use Rattle.gregorian.proofs.Laws.{and-both}
 use Rattle.format.specs.Book.{Calendar}
 use Rattle.format.specs.InRange.{Rising}
 use Rattle.model.specs.Lists.{keep}
 use Rattle.model.specs.Calendar.{isWorking}
 use Rattle.model.specs.Days.{datesBetween, workingDays, dayList}
-use Rattle.model.specs.Amounts.{spreadOver, saturatedSum}
 use Rattle.model.proofs.Lists.{keep-none, keep-all}
 use Rattle.model.proofs.Days.{day-list-counted, day-list-empty, day-list-some, day-list-rises, day-list-within}
 use Rattle.model.proofs.Planned.{countUpTo, spread-up-to, count-less, count-working, count-alone}
 use Rattle.calendar.specs.Tables.{steps, Counts, Rises}
 use Rattle.calendar.proofs.Spans.{rises-between, counts-working}
-use Rattle.activities.specs.Columns.{daysIn}
-use Rattle.planned.specs.Values.{plannedIn, settledBy, portionOf, portionIn}
-use Rattle.planned.specs.Columns.{Opened}
+use Rattle.planned.specs.Values.{plannedIn, settledBy, isNought, isGoing, portionOf, portionIn}
 
 -- ---- over rising days
 
@@ -94,64 +91,69 @@ module _ (c : Calendar) (first last date : ℕ) (amount : ℤ) (fits : SFits w64
 
 -- ---- settled
 
--- a span without days
-settled-none : (c : Calendar) (last date : ℕ) (amount : ℤ) → pos 0 ≡ plannedIn date amount (daysIn c 0 last)
-unfolding plannedIn daysIn spreadOver zipWith keep saturatedSum saturated
-settled-none c last date amount = refl
+nought-is : (z : ℤ) → isNought z ≡ true → z ≡ pos 0
+nought-is (pos zero) e = refl
+nought-is (pos (suc n)) e = absurd (true≢false (sym e))
+nought-is (negsuc n) e = absurd (true≢false (sym e))
 
-module _ (date : ℕ) (amount : ℤ) (last : ℕ) (fits : SFits w64 amount) where
-  nought-settled : amount ≡ pos 0 → (first : ℕ) (c : Calendar) → settledBy date amount first ≡ plannedIn date amount (daysIn c first last)
-  unfolding daysIn
-  nought-settled e zero c = settled-none c last date amount
-  nought-settled e (suc d) c = go (ltb date (suc d)) ∙ sym (planned-nought date amount fits (dayList c (suc d) last) (day-list-rises c (suc d) last) (day-list-some c (suc d) last) e)
+nought-not : (z : ℤ) → (z ≡ pos 0 → ⊥) → isNought z ≡ false
+nought-not (pos zero) h = absurd (h refl)
+nought-not (pos (suc n)) h = refl
+nought-not (negsuc n) h = refl
+
+and-none : (b : Bool) → (b && false) ≡ false
+and-none true = refl
+and-none false = refl
+
+module _ (date : ℕ) (amount : ℤ) (first last : ℕ) where
+  -- as the code tests it
+  pub settled-before : date < first → pos 0 ≡ settledBy date amount first
+  settled-before h = sym (ap (λ (b : Bool). cond b (pos 0) amount) (lt-ltb date first h))
+
+  pub settled-since : first ≤ date → amount ≡ settledBy date amount first
+  settled-since h = sym (ap (λ (b : Bool). cond b (pos 0) amount) (le-ltb date first h))
+
+  pub going-nought : amount ≡ pos 0 → false ≡ isGoing date amount first last
+  unfolding isGoing
+  going-nought e = sym (ap (λ (z : ℤ). not (isNought z) && (leb first date && ltb date last)) e)
+
+  pub going-before : date < first → false ≡ isGoing date amount first last
+  unfolding isGoing
+  going-before h = sym (rw (lt-leb first date h) (and-none (not (isNought amount))))
+
+  pub going-since : (amount ≡ pos 0 → ⊥) → first ≤ date → ltb date last ≡ isGoing date amount first last
+  unfolding isGoing
+  going-since h l = sym (rw (nought-not amount h, le-leb first date l))
+
+  -- of a span under way
+  module _ (g : isGoing date amount first last ≡ true) where
+    both : (leb first date && ltb date last) ≡ true
+    unfolding isGoing
+    both = and-both (not (isNought amount)) (leb first date && ltb date last) g .1
+
+    pub going-begun : first ≤ date
+    going-begun = leb-true first date (and-both (leb first date) (ltb date last) both .0)
+
+    pub going-on : date < last
+    going-on = ltb-true date last (and-both (leb first date) (ltb date last) both .1)
+
+  -- any other is settled, under any calendar
+  pub not-going : SFits w64 amount → isGoing date amount first last ≡ false → (c : Calendar) → settledBy date amount first ≡ plannedIn date amount (dayList c first last)
+  unfolding isGoing
+  not-going fits g c = go (isNought amount) refl (leb first date) refl (ltb date last) refl g
     where
-      go : (b : Bool) → cond b (pos 0) amount ≡ pos 0
-      go true = refl
-      go false = e
-
-  before-settled : (first : ℕ) → date < first → (c : Calendar) → settledBy date amount first ≡ plannedIn date amount (daysIn c first last)
-  unfolding daysIn
-  before-settled zero h c = absurd (omega arith)
-  before-settled (suc d) h c =
-      ap (λ (b : Bool). cond b (pos 0) amount) (lt-ltb date (suc d) h) ∙ sym (planned-before c (suc d) last date amount fits h)
-
-  after-settled : (first : ℕ) → first ≤ date → last ≤ date → (c : Calendar) → settledBy date amount first ≡ plannedIn date amount (daysIn c first last)
-  unfolding daysIn
-  after-settled zero h l c = settled-none c last date amount
-  after-settled (suc d) h l c =
-      ap (λ (b : Bool). cond b (pos 0) amount) (le-ltb date (suc d) h) ∙ sym (planned-after c (suc d) last date amount fits h l)
-
-  empty-settled : (first : ℕ) → first ≡ 0 → (c : Calendar) → settledBy date amount first ≡ plannedIn date amount (daysIn c first last)
-  empty-settled zero e c = settled-none c last date amount
-  empty-settled (suc d) e c = absurd (omega arith)
-
-  module _ (first : ℕ) where
-    closed : ((c : Calendar) → settledBy date amount first ≡ plannedIn date amount (daysIn c first last)) → Opened date amount first last 0
-    closed s = record { fits = fits; settled = λ e. s; same = λ h. absurd (omega arith); begun = λ h. absurd (omega arith); going = λ h. absurd (omega arith) }
-
-    pub opened-nought : amount ≡ pos 0 → Opened date amount first last 0
-    opened-nought e = closed (nought-settled e first)
-
-    pub opened-before : date < first → Opened date amount first last 0
-    opened-before h = closed (before-settled first h)
-
-    pub opened-after : first ≤ date → last ≤ date → Opened date amount first last 0
-    opened-after h l = closed (after-settled first h l)
-
-    pub opened-going : first ≤ date → date < last → Opened date amount first last first
-    opened-going h l = record { fits = fits; settled = λ e. empty-settled first e; same = λ p. refl; begun = λ p. h; going = λ p. l }
-
--- as the code tests it
-pub settled-empty : (date : ℕ) (amount : ℤ) (first : ℕ) → first ≡ 0 → pos 0 ≡ settledBy date amount first
-settled-empty date amount first e = sym (ap (settledBy date amount) e)
-
-pub settled-before : (date : ℕ) (amount : ℤ) (first : ℕ) → date < first → pos 0 ≡ settledBy date amount first
-settled-before date amount zero h = absurd (omega arith)
-settled-before date amount (suc d) h = sym (ap (λ (b : Bool). cond b (pos 0) amount) (lt-ltb date (suc d) h))
-
-pub settled-since : (date : ℕ) (amount : ℤ) (first : ℕ) → 0 < first → first ≤ date → amount ≡ settledBy date amount first
-settled-since date amount zero p h = absurd (omega arith)
-settled-since date amount (suc d) p h = sym (ap (λ (b : Bool). cond b (pos 0) amount) (le-ltb date (suc d) h))
+      go :
+          (n : Bool) → isNought amount ≡ n → (l : Bool) → leb first date ≡ l → (m : Bool) → ltb date last ≡ m → (not n && (l && m)) ≡ false →
+          settledBy date amount first ≡ plannedIn date amount (dayList c first last)
+      go true e l f m h g = same (ltb date first) ∙ sym (planned-nought date amount fits (dayList c first last) (day-list-rises c first last) (day-list-some c first last) (nought-is amount e))
+        where
+          same : (b : Bool) → cond b (pos 0) amount ≡ pos 0
+          same true = refl
+          same false = nought-is amount e
+      go false e false f m h g = sym (settled-before (omega (arith, leb-false first date f))) ∙ sym (planned-before c first last date amount fits (omega (arith, leb-false first date f)))
+      go false e true f false h g =
+          sym (settled-since (leb-true first date f)) ∙ sym (planned-after c first last date amount fits (leb-true first date f) (omega (arith, ltb-false date last h)))
+      go false e true f true h g = absurd (true≢false g)
 
 -- ---- by a table of running counts
 

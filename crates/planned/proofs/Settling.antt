@@ -1,77 +1,87 @@
--- From the columns of the spans under way and of what is settled to what is planned of each activity.
-use Prim.Native.Nat.{ℕ, zero, suc, _≤_, _<_}
-use mathlib.Core.Path.{_≡_, refl, sym, ap, _∙_, subst}
-use mathlib.Core.Bool.{Bool, true, false}
+-- From what is settled and what is planned under the calendars to planned value.
+use Prim.Native.Nat.{ℕ, _*_, _≤_, _<_}
+use mathlib.Core.Path.{_≡_, refl, sym, ap, ap₂, _∙_, subst}
+use mathlib.Core.Bool.{Bool, true, false, cond}
 use mathlib.Core.List.{List, map}
 use native.Mathlib.Omega.{arith}
 use native.Mathlib.Decide.{decLt}
-use borrow.Author.Tests.{ltb-true, ltb-false}
 use lib.IntN.{ℤ, pos}
-use lib.ListN.{length, getD, take, List·getD-eq-default}
-use lib.Seq.{getD-take, length-take-le}
-use Rattle.format.specs.InRange.{IsDate}
-use Rattle.format.specs.Book.{Calendar, Book}
+use lib.ListN.{length, getD, List·getD-eq-default}
+use mir.Syntax.{w64}
+use mir.Val.{SFits}
+use Rattle.format.specs.InRange.{InRange}
+use Rattle.format.specs.Book.{Book}
 use Rattle.model.specs.Lists.{span}
 use Rattle.model.specs.Lookup.{calendarAt}
 use Rattle.model.specs.Days.{dayList}
+use Rattle.model.specs.Tree.{parents, indices, isLeaf}
+use Rattle.model.specs.Planned.{budgetOf, listedDays, plannedAmounts, plannedOn}
+use Rattle.model.specs.Earned.{noEarned, leafEarned, ownEarned}
+use Rattle.model.proofs.Planned.{listed-rise, listed-some, budget-fits}
 use Rattle.tree.specs.Figures.{figureOf}
-use Rattle.activities.specs.Columns.{daysIn}
-use Rattle.activities.specs.Stretches.{SpansInRange}
-use Rattle.planned.specs.Values.{plannedIn, plannedBy}
-use Rattle.planned.specs.Columns.{Opened, Settled, UnderWay, isOpen, OpenPlanned}
-use Rattle.planned.proofs.Replacing.{column-is}
+use Rattle.baseline.specs.Listed.{listedOf, budgetsOf, ofLeaf, firstAt, lastAt, numberAt}
+use Rattle.baseline.proofs.Entries.{entries-are, entries-length, entry-at}
+use Rattle.baseline.proofs.Listing.{parents-count, budgets-long, budget-at, listed-long, listed-date, listed-dated, listed-list}
+use Rattle.planned.specs.Values.{plannedIn, settledBy, goingAt, plannedUnder, Spans, OpenPlanned}
+use Rattle.planned.proofs.Portions.{planned-nought, not-going}
 
--- of a span that has a first date
-some-days : (c : Calendar) (first last : ℕ) → 0 < first → dayList c first last ≡ daysIn c first last
-unfolding daysIn
-some-days c zero last h = absurd (omega arith)
-some-days c (suc d) last h = refl
+module _ (b : Book) {listed : List ℕ} {budgets : List ℤ} (l : listed ≡ listedOf b) (e : budgets ≡ budgetsOf b) (r : InRange b) where
+  abbrev n : ℕ
+  n = length (b .activities)
 
-module _ {date : ℕ} {first last : List ℕ} {budgets : List ℤ} {since : List ℕ} {out : List ℤ} (s : Settled date first last budgets since out) (n : ℕ) (all : length first ≡ n) (room : n ≤ length since) where
-  -- the first n numbers of the column
-  abbrev open′ : ℕ → ℕ
-  open′ i = getD (take n since) i 0
-
-  inside : (i : ℕ) → 0 < open′ i → i < n
-  inside i h = go (decLt i n)
+  leaf-fits : (i : ℕ) → SFits w64 (ofLeaf b (budgetOf b) i)
+  leaf-fits i = go (isLeaf (parents b) i)
     where
-      go : Dec (i < n) → i < n
-      go (yes l) = l
-      go (no l) = let e : open′ i ≡ 0 = List·getD-eq-default (take n since) 0 {n = i} (omega (arith, length-take-le n since room)) in absurd (omega arith)
+      go : (leaf : Bool) → SFits w64 (cond leaf (budgetOf b i) (pos 0))
+      go true = budget-fits b i r
+      go false = record { sfits = omega arith }
 
-  opened-at : (i : ℕ) → i < n → Opened date (figureOf budgets i) (getD first i 0) (getD last i 0) (open′ i)
-  opened-at i h = rw (getD-take n since i 0 h) (s .opened i (omega arith))
+  fits : (i : ℕ) → SFits w64 (figureOf budgets i)
+  fits i = go (decLt i n)
+    where
+      go : Dec (i < n) → SFits w64 (figureOf budgets i)
+      go (yes h) = subst (SFits w64) (sym (budget-at b e i h)) (leaf-fits i)
+      go (no h) = subst (SFits w64) (sym (List·getD-eq-default budgets (pos 0) {n = i} (omega (arith, budgets-long b e)))) record { sfits = omega arith }
 
-  pub under-way : UnderWay date (take n since) last budgets
-  under-way =
+  pub spans-are : Spans listed budgets
+  spans-are =
       record {
-        begun = λ i h. let o = opened-at i (inside i h) in omega (arith, o .same h, o .begun h);
-        going = λ i h. opened-at i (inside i h) .going h;
-        fits = λ i h. opened-at i (inside i h) .fits;
+        long = listed-long b l ∙ ap (λ (k : ℕ). k * 3) (sym (budgets-long b e));
+        dated = listed-dated b l r;
+        begins = λ i h. omega (arith, listed-date b l r i (omega (arith, budgets-long b e)) .first);
+        fits = fits;
       }
 
-  pub spans-open : SpansInRange first last → SpansInRange (take n since) last
-  spans-open r =
-      record {
-        begins = λ i h. let e = opened-at i (inside i h) .same h in subst IsDate (sym e) (r .begins i (omega (arith, e)));
-        ends = r .ends;
-      }
+  -- planned value of a leaf, 0 of a parent
+  own-at : (date i : ℕ) → plannedIn date (ofLeaf b (budgetOf b) i) (listedDays b i) ≡ ownEarned b date i .planned
+  unfolding ownEarned leafEarned plannedOn plannedAmounts plannedIn
+  own-at date i = go (isLeaf (parents b) i)
+    where
+      go : (leaf : Bool) → plannedIn date (cond leaf (budgetOf b i) (pos 0)) (listedDays b i) ≡ cond leaf (leafEarned b date i) noEarned .planned
+      go true = refl
+      go false = planned-nought date (pos 0) (record { sfits = omega arith }) (listedDays b i) (listed-rise b i) (listed-some b i) refl
 
   -- what is settled stays, and the rest is planned under its calendar
   pub all-planned :
-      (b : Book) (calendars : List ℕ) {after : List ℤ} → length out ≡ n → OpenPlanned (b .calendars) date (take n since) last calendars budgets out after →
-      after ≡ map (plannedBy b date first last calendars budgets) (span 0 n)
-  unfolding plannedBy
-  all-planned b calendars {after} long r = column-is (plannedBy b date first last calendars budgets) (pos 0) after n (r .long ∙ long) (λ i h. go i h (isOpen (take n since) i) refl)
+      (date : ℕ) {settled after : List ℤ} → settled ≡ map (λ i. settledBy date (figureOf budgets i) (firstAt listed i)) (span 0 (length budgets)) →
+      OpenPlanned (b .calendars) date listed budgets settled after → after ≡ map (λ i. ownEarned b date i .planned) (indices (parents b))
+  all-planned date {settled} {after} s o =
+      entries-are (λ i. ownEarned b date i .planned) (pos 0) after (length (parents b)) (o .long ∙ long ∙ sym (parents-count b))
+      (λ i h. under i (omega (arith, parents-count b)) ∙ ap₂ (plannedIn date) (budget-at b e i (omega (arith, parents-count b))) (sym (listed-list b l i (omega (arith, parents-count b)))) ∙ own-at date i)
     where
-      go : (i : ℕ) → i < n → (t : Bool) → isOpen (take n since) i ≡ t → figureOf after i ≡ plannedBy b date first last calendars budgets i
-      go i h true e =
-          let c = calendarAt b (getD calendars i 0) in
-          let p : 0 < open′ i = ltb-true 0 (open′ i) e in
-          let same = opened-at i h .same p in
-          r .done i (omega arith) e tt
-          ∙ ap (λ (d : ℕ). plannedIn date (figureOf budgets i) (dayList c d (getD last i 0))) same
-          ∙ ap (plannedIn date (figureOf budgets i)) (some-days c (getD first i 0) (getD last i 0) (omega (arith, same)))
-      go i h false e =
-          r .kept i e ∙ s .known i (omega arith)
-          ∙ opened-at i h .settled (omega (arith, ltb-false 0 (open′ i) e)) (calendarAt b (getD calendars i 0))
+      by : ℕ → ℤ
+      by i = settledBy date (figureOf budgets i) (firstAt listed i)
+
+      long : length settled ≡ n
+      long = ap length s ∙ entries-length by (length budgets) ∙ budgets-long b e
+
+      under : (i : ℕ) → i < n → figureOf after i ≡ plannedUnder (calendarAt b (numberAt listed i)) date listed budgets i
+      under i h = go (goingAt date listed budgets i) refl
+        where
+          go : (g : Bool) → goingAt date listed budgets i ≡ g → figureOf after i ≡ plannedUnder (calendarAt b (numberAt listed i)) date listed budgets i
+          go true g = o .done i (omega (arith, long)) g tt
+          go false g =
+              o .kept i g
+              ∙ ap (λ (t : List ℤ). figureOf t i) s
+              ∙ entry-at by (pos 0) (length budgets) i (omega (arith, budgets-long b e))
+              ∙ not-going date (figureOf budgets i) (firstAt listed i) (lastAt listed i) (fits i) g (calendarAt b (numberAt listed i))

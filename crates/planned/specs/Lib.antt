@@ -1,2 +1,2 @@
-pub mod Values
 pub mod Columns
+pub mod Values

@@ -1,109 +1,131 @@
-// The spans under way, calendar by calendar: its working dates over a stretch are counted once for all of them.
+// The spans under way, calendar by calendar: the working dates of a calendar are counted once, over the stretch that its spans take.
+use crate::spans::is_going;
 use crate::spans::portion;
 use activities::Stretch;
+use activities::stretches::close;
+use activities::stretches::widen;
 use book::Section;
 use book::calendars::Calendar;
 use book::calendars::read_calendar;
 use calendar::counts::fill_counts;
 ghost use mathlib.Core.Path.{_≡_};
-ghost use mathlib.Core.Bool.{cond};
-ghost use Prim.Native.Nat.{_+_, _-_, _≤_, _<_};
-ghost use lib.ListN.{length, set};
+ghost use Prim.Native.Nat.{ℕ, _+_, _*_, _-_, _≤_, _<_};
+ghost use lib.ListN.{length};
 ghost use Rattle.format.specs.InRange.{Every, CalendarInRange};
 ghost use Rattle.format.specs.Format as layout;
-ghost use Rattle.holidays.specs.Holiday.{any};
 ghost use Rattle.book.specs.Sections.{alikeIn, calendarOf};
-ghost use Rattle.model.specs.Lists.{span};
-ghost use Rattle.activities.specs.Stretches.{Covers};
-ghost use Rattle.planned.specs.Values.{portionAt, plannedUnder};
-ghost use Rattle.planned.specs.Columns.{Long, Named, UnderWay, Counted, isUnder, Replaced, All, OpenPlanned};
+ghost use Rattle.activities.specs.Stretches.{CoversSpans};
+ghost use Rattle.baseline.specs.Listed.{lastAt, numberAt};
+ghost use Rattle.planned.specs.Columns.{Replaced, All};
+ghost use Rattle.planned.specs.Values as value;
 
-// The span is under way, and its calendar is the one of this number.
-pub fn is_under(calendar: u64, since: &[u64], calendars: &[u64], i: usize) -> bool
-    requires { ⌜ (i < length (now since)) × (i < length (now calendars)) ⌝ }
-    ensures { λ r. ⌜ r ≡ isUnder (now (since .entry)) (now (calendars .entry)) calendar i ⌝ }
+// The span of activity i is under way, and its calendar is the one of this number.
+fn is_under(calendar: u64, date: u64, listed: &[u64], budgets: &[i64], i: usize) -> bool
+    requires { ⌜ (i * 3 + 2 < length (now listed)) × (i < length (now budgets)) ⌝ }
+    ensures { λ r. ⌜ r ≡ value.isUnder calendar date (now (listed .entry)) (now (budgets .entry)) i ⌝ }
 {
-    if since[i] == 0 {
-        return false;
-    }
-    calendars[i] == calendar
-}
-
-// Whether any span is.
-pub fn is_used(calendar: u64, since: &[u64], calendars: &[u64]) -> bool
-    requires { ⌜ length (now calendars) ≡ length (now since) ⌝ }
-    ensures { λ r. ⌜ r ≡ any (isUnder (now (since .entry)) (now (calendars .entry)) calendar) (span 0 (length (now (since .entry)))) ⌝ }
-{
-    let mut i = 0;
-    while i < since.len() {
-        if is_under(calendar, since, calendars, i) {
-            return true;
-        }
-        i += 1;
+    let at = i * 3;
+    if listed[at + 2] == calendar {
+        let amount = budgets[i];
+        return is_going(date, amount, listed[at], listed[at + 1]);
     }
     false
 }
 
-// What is planned of one activity, where its calendar is the one that is counted.
-fn plan_activity(
-    i: usize,
+// From the first date of these spans to the last.
+fn reach(calendar: u64, date: u64, listed: &[u64], budgets: &[i64]) -> Stretch
+    requires { ⌜ value.Spans (now listed) (now budgets) ⌝ }
+    ensures { λ r. ⌜ CoversSpans (value.sinceUnder calendar date (now (listed .entry)) (now (budgets .entry))) (lastAt (now (listed .entry))) r ⌝ }
+{
+    let mut known = Stretch {
+        from: 47482,
+        to: 10956,
+    };
+    let mut i = 0;
+    while i < budgets.len() {
+        if is_under(calendar, date, listed, budgets, i) {
+            known = widen(known, listed[i * 3], listed[i * 3 + 1]);
+        }
+        i += 1;
+    }
+    close(known)
+}
+
+// What is planned of these activities, by running counts of the calendar's working dates.
+fn plan_counted(
     calendar: u64,
     date: u64,
     reach: Stretch,
     counts: &[u64],
-    since: &[u64],
-    last: &[u64],
-    calendars: &[u64],
+    listed: &[u64],
     budgets: &[i64],
     out: &mut [i64],
 )
-    requires { ⌜ i < length (now out) ⌝ }
-    requires { ⌜ Long (length (now out)) (now since) (now last) (now calendars) (now budgets) ⌝ }
-    requires { ⌜ UnderWay date (now since) (now last) (now budgets) ⌝ }
-    requires { ⌜ Covers (now since) (now last) reach ⌝ }
-    requires { ⌜ Counted reach (now counts) ⌝ }
-    ensures { λ r. ⌜ now (out .exit) ≡ cond (isUnder (now (since .entry)) (now (calendars .entry)) calendar i) (set (now (out .entry)) i (portionAt (reach .from) (now (counts .entry)) date (now (since .entry)) (now (last .entry)) (now (budgets .entry)) i)) (now (out .entry)) ⌝ }
+    requires { ⌜ value.Spans (now listed) (now budgets) × (length (now out) ≡ length (now budgets)) ⌝ }
+    requires { ⌜ CoversSpans (value.sinceUnder calendar date (now listed) (now budgets)) (lastAt (now listed)) reach ⌝ }
+    requires { ⌜ value.Counted reach (now counts) ⌝ }
+    ensures { λ r. ⌜ Replaced (value.isUnder calendar date (now (listed .entry)) (now (budgets .entry))) All (value.portionAt (reach .from) (now (counts .entry)) date (now (listed .entry)) (now (budgets .entry))) (now (out .entry)) (now (out .exit)) ⌝ }
 {
-    if is_under(calendar, since, calendars, i) {
-        let amount = budgets[i];
-        out[i] = portion(amount, date, counts, reach.from, since[i], last[i]);
+    let mut i = 0;
+    while i < budgets.len() {
+        if is_under(calendar, date, listed, budgets, i) {
+            let amount = budgets[i];
+            out[i] = portion(
+                amount,
+                date,
+                counts,
+                reach.from,
+                listed[i * 3],
+                listed[i * 3 + 1],
+            );
+        }
+        i += 1;
     }
 }
 
-// Of all activities.
-fn plan_activities(
-    calendar: u64,
+// Over a stretch of at most 1,024 dates.
+fn plan_short(
+    book: &[u8],
+    calendar: Calendar,
+    number: u64,
     date: u64,
     reach: Stretch,
-    counts: &[u64],
-    since: &[u64],
-    last: &[u64],
-    calendars: &[u64],
+    listed: &[u64],
     budgets: &[i64],
     out: &mut [i64],
 )
-    requires { ⌜ Long (length (now out)) (now since) (now last) (now calendars) (now budgets) ⌝ }
-    requires { ⌜ UnderWay date (now since) (now last) (now budgets) ⌝ }
-    requires { ⌜ Covers (now since) (now last) reach ⌝ }
-    requires { ⌜ Counted reach (now counts) ⌝ }
-    ensures { λ r. ⌜ Replaced (isUnder (now (since .entry)) (now (calendars .entry)) calendar) All (portionAt (reach .from) (now (counts .entry)) date (now (since .entry)) (now (last .entry)) (now (budgets .entry))) (now (out .entry)) (now (out .exit)) ⌝ }
+    requires { ⌜ CalendarInRange (calendarOf (now book) calendar) ⌝ }
+    requires { ⌜ value.Spans (now listed) (now budgets) × (length (now out) ≡ length (now budgets)) ⌝ }
+    requires { ⌜ CoversSpans (value.sinceUnder number date (now listed) (now budgets)) (lastAt (now listed)) reach ⌝ }
+    requires { ⌜ reach .to + 1 - reach .from ≤ 1024 ⌝ }
+    ensures { λ r. ⌜ Replaced (value.isUnder number date (now (listed .entry)) (now (budgets .entry))) All (value.plannedUnder (calendarOf (now (book .entry)) calendar) date (now (listed .entry)) (now (budgets .entry))) (now (out .entry)) (now (out .exit)) ⌝ }
 {
-    let mut i = 0;
-    while i < since.len() {
-        plan_activity(
-            i,
-            calendar,
-            date,
-            reach,
-            counts,
-            since,
-            last,
-            calendars,
-            budgets,
-            out,
-        );
-        i += 1;
-    }
+    let mut days = [0u8; 1024];
+    let mut counts = [0u64; 1025];
+    fill_counts(book, calendar, reach.from, reach.to, &mut days, &mut counts);
+    plan_counted(number, date, reach, &counts, listed, budgets, out);
+}
+
+// Over any stretch of the book's dates.
+fn plan_long(
+    book: &[u8],
+    calendar: Calendar,
+    number: u64,
+    date: u64,
+    reach: Stretch,
+    listed: &[u64],
+    budgets: &[i64],
+    out: &mut [i64],
+)
+    requires { ⌜ CalendarInRange (calendarOf (now book) calendar) ⌝ }
+    requires { ⌜ value.Spans (now listed) (now budgets) × (length (now out) ≡ length (now budgets)) ⌝ }
+    requires { ⌜ CoversSpans (value.sinceUnder number date (now listed) (now budgets)) (lastAt (now listed)) reach ⌝ }
+    ensures { λ r. ⌜ Replaced (value.isUnder number date (now (listed .entry)) (now (budgets .entry))) All (value.plannedUnder (calendarOf (now (book .entry)) calendar) date (now (listed .entry)) (now (budgets .entry))) (now (out .entry)) (now (out .exit)) ⌝ }
+{
+    let mut days = [0u8; 36525];
+    let mut counts = [0u64; 36526];
+    fill_counts(book, calendar, reach.from, reach.to, &mut days, &mut counts);
+    plan_counted(number, date, reach, &counts, listed, budgets, out);
 }
 
 // The activities of one calendar of the book; where none is under way, its working dates are not counted.
@@ -112,59 +134,38 @@ fn plan_calendar(
     calendar: Calendar,
     number: u64,
     date: u64,
-    reach: Stretch,
-    since: &[u64],
-    last: &[u64],
-    calendars: &[u64],
+    listed: &[u64],
     budgets: &[i64],
-    days: &mut [u8],
-    counts: &mut [u64],
     out: &mut [i64],
 )
     requires { ⌜ CalendarInRange (calendarOf (now book) calendar) ⌝ }
-    requires { ⌜ Long (length (now out)) (now since) (now last) (now calendars) (now budgets) ⌝ }
-    requires { ⌜ UnderWay date (now since) (now last) (now budgets) ⌝ }
-    requires { ⌜ Covers (now since) (now last) reach ⌝ }
-    requires { ⌜ (reach .to + 1 - reach .from ≤ length (now days)) × (reach .to + 1 - reach .from < length (now counts)) ⌝ }
-    ensures { λ r. ⌜ Replaced (isUnder (now (since .entry)) (now (calendars .entry)) number) All (plannedUnder (calendarOf (now (book .entry)) calendar) date (now (since .entry)) (now (last .entry)) (now (budgets .entry))) (now (out .entry)) (now (out .exit)) ⌝ }
+    requires { ⌜ value.Spans (now listed) (now budgets) × (length (now out) ≡ length (now budgets)) ⌝ }
+    ensures { λ r. ⌜ Replaced (value.isUnder number date (now (listed .entry)) (now (budgets .entry))) All (value.plannedUnder (calendarOf (now (book .entry)) calendar) date (now (listed .entry)) (now (budgets .entry))) (now (out .entry)) (now (out .exit)) ⌝ }
 {
-    if is_used(number, since, calendars) {
-        fill_counts(book, calendar, reach.from, reach.to, days, counts);
-        plan_activities(
-            number,
-            date,
-            reach,
-            counts,
-            since,
-            last,
-            calendars,
-            budgets,
-            out,
-        );
+    let spans = reach(number, date, listed, budgets);
+    if spans.to < spans.from {
+        return;
     }
+    if spans.to - spans.from < 1024 {
+        plan_short(book, calendar, number, date, spans, listed, budgets, out);
+        return;
+    }
+    plan_long(book, calendar, number, date, spans, listed, budgets, out);
 }
 
-// The activities of all calendars, with tables for the stretch.
+// The activities of all calendars.
 pub fn plan_calendars(
     book: &[u8],
     list: Section,
     date: u64,
-    reach: Stretch,
-    since: &[u64],
-    last: &[u64],
-    calendars: &[u64],
+    listed: &[u64],
     budgets: &[i64],
-    days: &mut [u8],
-    counts: &mut [u64],
     out: &mut [i64],
 )
     requires { ⌜ Every CalendarInRange (alikeIn layout.calendar (now book) list) ⌝ }
-    requires { ⌜ Long (length (now out)) (now since) (now last) (now calendars) (now budgets) ⌝ }
-    requires { ⌜ Named (list .count) (now calendars) ⌝ }
-    requires { ⌜ UnderWay date (now since) (now last) (now budgets) ⌝ }
-    requires { ⌜ Covers (now since) (now last) reach ⌝ }
-    requires { ⌜ (reach .to + 1 - reach .from ≤ length (now days)) × (reach .to + 1 - reach .from < length (now counts)) ⌝ }
-    ensures { λ r. ⌜ OpenPlanned (alikeIn layout.calendar (now (book .entry)) list) date (now (since .entry)) (now (last .entry)) (now (calendars .entry)) (now (budgets .entry)) (now (out .entry)) (now (out .exit)) ⌝ }
+    requires { ⌜ value.Spans (now listed) (now budgets) × (length (now out) ≡ length (now budgets)) ⌝ }
+    requires { ⌜ ((i : ℕ) → i < length (now budgets) → numberAt (now listed) i < list .count) ⌝ }
+    ensures { λ r. ⌜ value.OpenPlanned (alikeIn layout.calendar (now (book .entry)) list) date (now (listed .entry)) (now (budgets .entry)) (now (out .entry)) (now (out .exit)) ⌝ }
 {
     let count = list.count;
     let mut next = list.first;
@@ -172,20 +173,7 @@ pub fn plan_calendars(
     while k < count {
         let calendar = read_calendar(book, next);
         next = calendar.next;
-        plan_calendar(
-            book,
-            calendar,
-            k,
-            date,
-            reach,
-            since,
-            last,
-            calendars,
-            budgets,
-            days,
-            counts,
-            out,
-        );
+        plan_calendar(book, calendar, k, date, listed, budgets, out);
         k += 1;
     }
 }

@@ -1,7 +1,7 @@
 -- `index_bits` meets its contract: by whether there is an index.
 use mathlib.Core.Path.{refl}
 use borrow.Author.Needs.{needs}
-use Rattle.forecast.specs.Rows.{indexBits}
+use Rattle.answers.specs.Rows.{indexBits}
 use Rattle.forecast.proofs.index_bits.Statement.{statement}
 use Rattle.forecast.proofs.index_bits.Tie as tie
 

@@ -5,7 +5,7 @@ use mir.Syntax.{w64}
 use Rattle.integer.specs.Linear.{back}
 use Rattle.integer.specs.Clamp.{clamp}
 use Rattle.model.specs.Forecast as definition
-use Rattle.forecast.specs.Rows.{estimatesRow}
+use Rattle.answers.specs.Rows.{estimatesRow}
 use borrow.Author.Needs.{needs}
 use Rattle.forecast.proofs.put_estimates.Statement.{statement}
 use Rattle.forecast.proofs.put_estimates.Tie as tie

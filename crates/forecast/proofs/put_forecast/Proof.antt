@@ -4,7 +4,7 @@ use mathlib.Core.List.{List}
 use Prim.Native.Nat.{ℕ}
 use lib.Seq.{sets}
 use Rattle.model.specs.declared.Indices.{Indices}
-use Rattle.forecast.specs.Rows.{indicesRow}
+use Rattle.answers.specs.Rows.{indicesRow}
 use Rattle.forecast.proofs.Put.{row-put}
 use borrow.Author.Needs.{needs}
 use Rattle.forecast.proofs.put_forecast.Statement.{statement}

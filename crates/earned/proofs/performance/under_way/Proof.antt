@@ -6,7 +6,6 @@ use mir.Facts.{toZ-ofZ}
 use borrow.Author.Needs.{needs}
 use Rattle.integer.specs.Linear.{back}
 use Rattle.floats.specs.Figures.{shareOf, clamp01Of}
-use Rattle.records.specs.Decoded.{activityOf}
 use Rattle.earned.proofs.performance.under_way.Statement.{statement}
 use Rattle.earned.proofs.performance.under_way.Tie as tie
 
@@ -35,17 +34,14 @@ enum-known-technique : tie.Need-enum-known-technique
 enum-known-technique c = search needs
 
 returns : tie.Need-returns
-unfolding activityOf
 returns c =
     let percent = c .before .amount-or-zero in
     rw (c .before .before .enum-told .given .1) (c .share .ensures ∙ ap shareOf (back w64 (percent .result) (percent .ok) ∙ percent .ensures))
 
 returns-2 : tie.Need-returns-2
-unfolding activityOf
 returns-2 c = rw (c .before .before .enum-told2 .given .1) (c .clamp01 .ensures ∙ ap clamp01Of (c .before .by-duration .ensures))
 
 returns-3 : tie.Need-returns-3
-unfolding activityOf
 returns-3 c =
     let last = c .before in
     let units = last .before .before in

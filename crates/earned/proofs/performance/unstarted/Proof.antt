@@ -5,7 +5,6 @@ use mir.Syntax.{w64}
 use borrow.Author.Needs.{needs}
 use Rattle.integer.specs.Linear.{back}
 use Rattle.floats.specs.Figures.{shareOf}
-use Rattle.records.specs.Decoded.{activityOf}
 use Rattle.earned.proofs.performance.unstarted.Statement.{statement}
 use Rattle.earned.proofs.performance.unstarted.Tie as tie
 
@@ -28,7 +27,6 @@ enum-told-6 : tie.Need-enum-told-6
 enum-told-6 c = search needs
 
 returns : tie.Need-returns
-unfolding activityOf
 returns c =
     let percent = c .before .amount-or-zero in
     rw (c .before .before .enum-told .given .1) (c .share .ensures ∙ ap shareOf (back w64 (percent .result) (percent .ok) ∙ percent .ensures))

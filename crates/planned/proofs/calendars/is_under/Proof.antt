@@ -1,37 +1,42 @@
 -- `is_under` meets its contract: both tests.
-use mathlib.Core.Path.{sym, ap}
-use mathlib.Core.Bool.{Bool, _&&_}
+use mathlib.Core.Path.{refl, ap, sym, _∙_}
 use native.Mathlib.Omega.{arith}
+use lib.IntN.{ℤ}
+use mir.Syntax.{w64}
 use borrow.Author.Needs.{needs}
-use borrow.Author.Tests.{lt-ltb, le-ltb}
-use lib.Dec.{eqb}
-use lib.ListN.{getD}
+use borrow.Author.Tests.{eq-eqb, ne-eqb}
+use Rattle.integer.specs.Linear.{back}
+use Rattle.baseline.specs.Listed.{firstAt, lastAt}
+use Rattle.planned.specs.Values.{isGoing}
 use Rattle.planned.proofs.calendars.is_under.Statement.{statement}
 use Rattle.planned.proofs.calendars.is_under.Tie as tie
 
-mul-if1 : tie.Need-mul-if1
-mul-if1 c = search needs
-
-shared-slice-read-if1 : tie.Need-shared-slice-read-if1
-shared-slice-read-if1 c = search needs
-
 returns : tie.Need-returns
 returns c =
-    let s = c .before .before .args in
-    sym (ap (λ (b : Bool). b && eqb (getD (s .calendars .now) (s .i) 0) (s .calendar)) (le-ltb 0 (getD (s .since .now) (s .i) 0) (omega (arith, c .if1 .taken))))
-
-mul-result : tie.Need-mul-result
-mul-result c = search needs
-
-shared-slice-read-result : tie.Need-shared-slice-read-result
-shared-slice-read-result c = search needs
+    let test = c .before .before .before .before in
+    let s = test .before .before .before in
+    let listed = s .args .listed .now in
+    rw (eq-eqb _ _ (test .if1 .taken))
+    (c .is-going .ensures ∙ ap (λ (z : ℤ). isGoing (s .args .date) z (firstAt listed (s .args .i)) (lastAt listed (s .args .i))) (back w64 _ (c .before .before .before .amount .given)))
 
 returns-2 : tie.Need-returns-2
-returns-2 c =
-    let s = c .before .before .before .args in
-    sym (ap (λ (b : Bool). b && eqb (getD (s .calendars .now) (s .i) 0) (s .calendar)) (lt-ltb 0 (getD (s .since .now) (s .i) 0) (omega (arith, c .before .if1 .left))))
+returns-2 c = rw (ne-eqb _ _ (c .if1 .left)) refl
 
 pub is-under-spec : {M : Type 1} → statement M
 is-under-spec =
     tie.close
-    (tie.spec mul-if1 shared-slice-read-if1 returns mul-result shared-slice-read-result returns-2)
+    (tie.spec
+    (λ c. search needs)
+    (λ c. search needs)
+    (λ c. search needs)
+    (λ c. search needs)
+    (λ c. search needs)
+    (λ c. search needs)
+    (λ c. search needs)
+    (λ c. search needs)
+    (λ c. search needs)
+    (λ c. search needs)
+    (λ c. search needs)
+    (λ c κs. tt)
+    returns
+    returns-2)

@@ -1,0 +1,37 @@
+-- `date_values` meets its contract: the column of planned value is as long as the book has activities.
+use Prim.Native.Nat.{_≤_}
+use native.Mathlib.Omega.{arith}
+use mathlib.Core.Path.{sym}
+use lib.ListN.{length}
+use lib.Seq.{length-take-le}
+use borrow.Author.Needs.{needs}
+use Rattle.format.specs.Verdict.{content}
+use Rattle.book.proofs.Plan.{activities-count, activities-most}
+use Rattle.baseline.proofs.Listing.{budgets-long}
+use Rattle.earned.proofs.dated.date_values.Statement.{statement}
+use Rattle.earned.proofs.dated.date_values.Tie as tie
+
+room : (c : tie.Start) → length (c .args .budgets .now) ≤ 500
+room c = let p = c .pre .0 .plan in omega (arith, budgets-long (content (c .args .book .now)) (c .pre .1 .0 .1), activities-count p, activities-most p)
+
+array-borrow-prefix-planned : tie.Need-array-borrow-prefix-planned
+array-borrow-prefix-planned c = room (c .before .before)
+
+slice-aggregate-date-by : tie.Need-slice-aggregate-date-by
+slice-aggregate-date-by c = sym (length-take-le _ _ (room (c .before .before .before)))
+
+date-by-requires : tie.Need-date-by-requires
+date-by-requires c κs =
+    let s = c .before .before .before .before in
+    let p = s .pre .0 .plan in
+    (p .accepted, (p .calendars, (s .pre .1 .0, (length-take-le _ _ (room s), s .pre .1 .1))))
+
+pub date-values-spec : {M : Type 1} → statement M
+date-values-spec =
+    tie.close
+    (tie.spec
+    array-borrow-prefix-planned
+    slice-aggregate-date-by
+    date-by-requires
+    (λ c. search needs)
+    (λ c. search needs))

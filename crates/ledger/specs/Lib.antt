@@ -1,0 +1,3 @@
+pub mod Accounts
+pub mod Arguments
+pub mod Lines

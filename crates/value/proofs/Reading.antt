@@ -1,0 +1,73 @@
+-- Rows of earned value: read from tables of figures, and as they are answered.
+use Prim.Native.Nat.{ℕ, _+_, _*_, _<_}
+use native.Mathlib.Numerals.{add-one, add-two, add-three, add-four, add-five}
+use native.Mathlib.Omega.{arith}
+use mathlib.Core.Path.{_≡_, refl, ap, sym, _∙_}
+use mathlib.Core.List.{List, [], _∷_, map, flatMap}
+use lib.IntN.{ℤ, pos}
+use lib.ListN.{length, getD, set, length-map}
+use lib.Seq.{sets}
+use Rattle.money.specs.Words.{bits}
+use Rattle.format.specs.Book.{Activity, Book}
+use Rattle.model.specs.declared.Earned.{Earned}
+use Rattle.model.specs.Lists.{span}
+use Rattle.model.specs.Tree.{parents, indices}
+use Rattle.model.specs.Earned.{earnedAt, earnedValue, spentIn}
+use Rattle.model.proofs.Lists.{span-in}
+use Rattle.flat.proofs.Tables.{flat-same, flat-map}
+use Rattle.tree.specs.Figures.{figureOf}
+use Rattle.tree.specs.Tables.{earnedFigures, rolledValues}
+use Rattle.tree.proofs.Spans.{rows-at}
+use Rattle.rows.specs.Rows.{numbers}
+use Rattle.rows.proofs.Numbers.{numbers-flat}
+use Rattle.answers.specs.Rows.{earnedRow, earnedValueRows}
+use Rattle.value.specs.Figures.{earnedIn}
+
+-- six numbers set one behind the other
+pub six-set :
+    (out : List ℕ) (at : ℕ) (e : Earned) {a b c d f g : ℕ} → a ≡ bits (e .budget) → b ≡ bits (e .planned) → c ≡ bits (e .earned) → d ≡ bits (e .actual) → f ≡ bits (e .remaining) → g ≡ bits (spentIn e) →
+    set (set (set (set (set (set out at a) (at + 1) b) (at + 2) c) (at + 3) d) (at + 4) f) (at + 5) g ≡ sets out at (earnedRow e)
+unfolding earnedRow
+six-set out at e p q r s t u = rw (p, q, r, s, t, u, add-one at, add-two at, add-three at, add-four at, add-five at) refl
+
+pub row-six : (e : Earned) → length (earnedRow e) ≡ 6
+unfolding earnedRow
+row-six e = refl
+
+-- a row of a table is the figures that it was made of
+pub row-read : (f : ℕ → Earned) (n : ℕ) {table : List ℤ} → table ≡ flatMap (λ i. earnedFigures (f i)) (span 0 n) → (i : ℕ) → i < n → earnedIn table i ≡ f i
+row-read f n {table} e i h =
+    let first : figureOf table (i * 5) ≡ f i .budget = (let z : i * 5 ≡ i * 5 + 0 = omega arith in ap (figureOf table) z ∙ at 0 (omega arith)) in
+    λ k.
+    record {
+      budget = first k;
+      planned = at 1 (omega arith) k;
+      earned = at 2 (omega arith) k;
+      actual = at 3 (omega arith) k;
+      remaining = at 4 (omega arith) k;
+    }
+  where
+    at : (j : ℕ) → j < 5 → figureOf table (i * 5 + j) ≡ getD (earnedFigures (f i)) j (pos 0)
+    at j l = ap (λ (t : List ℤ). figureOf t (i * 5 + j)) e ∙ rows-at 5 (λ m. earnedFigures (f m)) (λ m. refl) n i j (pos 0) h l
+
+module _ (b : Book) (date : ℕ) (n : ℕ) (count : length (b .activities) ≡ n) {table : List ℤ} (e : table ≡ rolledValues b date) where
+  parents-are : length (parents b) ≡ n
+  unfolding parents
+  parents-are = length-map (b .activities) (λ (a : Activity). a .parent) ∙ count
+
+  made : table ≡ flatMap (λ i. earnedFigures (earnedAt b date i)) (span 0 n)
+  unfolding rolledValues
+  made = e ∙ ap (λ (k : ℕ). flatMap (λ i. earnedFigures (earnedAt b date i)) (span 0 k)) parents-are
+
+  -- of an activity
+  pub rolled-read : (i : ℕ) → i < n → earnedIn table i ≡ earnedAt b date i
+  rolled-read = row-read (earnedAt b date) n made
+
+  -- of all
+  pub rows-read : flatMap (λ i. earnedRow (earnedIn table i)) (span 0 n) ≡ numbers (earnedValueRows date b)
+  unfolding earnedValueRows earnedValue
+  rows-read =
+      flat-same (λ i. earnedRow (earnedIn table i)) (λ i. earnedRow (earnedAt b date i)) (span 0 n) (λ i m. let k = span-in 0 n i m in ap earnedRow (rolled-read i (omega arith)))
+      ∙ ap (λ (k : ℕ). flatMap (λ i. earnedRow (earnedAt b date i)) (span 0 k)) (sym parents-are)
+      ∙ sym (flat-map earnedRow (earnedAt b date) (indices (parents b)))
+      ∙ sym (numbers-flat earnedRow (map (earnedAt b date) (indices (parents b))))
