@@ -1,9 +1,4 @@
-pub mod Reading
-pub mod Naming
-pub mod Owners
-pub mod Taken
-pub mod Named
-pub mod Handed
-pub mod Written
-pub mod Lined
+pub mod Sought
 pub mod Accepted
+pub mod Lined
+pub mod Sized

@@ -1,88 +1,72 @@
--- The lines that the columns make are the book's.
-use Prim.Native.Nat.{ℕ, zero, suc, _+_, _≤_, _<_}
+-- The rows of the lines, and how many there are.
+use Prim.Native.Nat.{ℕ, _+_, _*_, _<_}
 use native.Mathlib.Omega.{arith}
-use mathlib.Core.Path.{_≡_, refl, ap, ap₂, _∙_}
-use mathlib.Core.List.{List, _∷_, _++_, map, List·Memᴰ}
+use mathlib.Core.Path.{_≡_, refl, sym, ap, _∙_}
+use mathlib.Core.List.{List, [], _∷_, map, flatMap, foldl}
 use mathlib.Core.Option.{none, some}
 use lib.IntN.{ℤ, pos}
-use lib.ListN.{length, getD, length-append}
-use mir.Syntax.{w64}
-use Rattle.integer.specs.Folds.{saturated}
-use Rattle.format.specs.Book.{Book}
-use Rattle.book.specs.Sections.{markOf}
-use Rattle.book.proofs.Marks.{Small}
-use Rattle.model.specs.Lists.{span}
-use Rattle.model.specs.Tree.{Parents, parents, indices, walk, steps, stepsMade}
-use Rattle.model.specs.Costs.{costOf, projectCost}
-use Rattle.model.specs.Budgets.{Owner, BudgetLine, budgetFor, currentOf, proposedOf, distributedOf, hasLine, lineOwners, depthOf, lineFor, budgetLines}
-use Rattle.model.proofs.Lists.{made-at, map-same, keep-in, span-in}
+use lib.ListN.{length, length-map}
+use Rattle.format.specs.Book.{Activity, Book}
+use Rattle.model.specs.Lists.{span, keep}
+use Rattle.model.specs.Tree.{parents, leaves}
+use Rattle.money.specs.Costs.{sumOf}
+use Rattle.model.specs.Costs.{ownCost, costOf, noCost, projectCost}
+use Rattle.model.specs.Budgets.{BudgetLine, lineAccounts, depthOf, lineFor, budgetLines}
 use Rattle.tree.specs.Figures.{parentsOf, figureOf}
-use Rattle.rows.specs.Rows.{optional}
-use Rattle.rows.proofs.Sets.{optional-two}
-use Rattle.budget.specs.Owners.{byOwner, MarksLines}
-use Rattle.budget.specs.Lines.{lineIn, activityLine, linesIn}
-use Rattle.budget.specs.Rows.{budgetRow}
-use Rattle.budget.proofs.Owners.{at-owner}
-use Rattle.budget.proofs.Named.{marked-owners}
-
-pub row-long : (l : BudgetLine) → length (budgetRow l) ≡ 10
-unfolding budgetRow optional
-row-long l = behind (l .activity) _
-  where
-    behind : (o : Owner) (rest : List ℕ) → length (optional o ++ rest) ≡ 2 + length rest
-    behind o rest = length-append (optional o) rest ∙ ap (λ (n : ℕ). n + length rest) (optional-two o)
-
--- a walk makes no more steps than its limit
-steps-most : (ps : Parents) (limit : ℕ) (to : Owner) → length (steps ps limit to) ≤ limit
-unfolding steps
-steps-most ps zero to = omega arith
-steps-most ps (suc limit) none = omega arith
-steps-most ps (suc limit) (some p) = omega (arith, steps-most ps limit (getD ps p none))
-
-pub made-most : (ps : Parents) (limit i : ℕ) → stepsMade ps limit i ≤ limit
-unfolding stepsMade walk
-made-most ps limit i = steps-most ps limit (getD ps i none)
+use Rattle.tree.specs.Tables.{costFigures, ownCosts, rolledCosts}
+use Rattle.tree.proofs.Spans.{rows-length, rows-at}
+use Rattle.flat.proofs.Tables.{flat-map}
+use Rattle.rows.specs.Rows.{numbers}
+use Rattle.answers.specs.Rows.{budgetRow, budgetRows}
+use Rattle.ledger.specs.Accounts.{booked, markedOf, MarksLines}
+use Rattle.ledger.specs.Lines.{lineIn, linesIn}
+use Rattle.ledger.proofs.Named.{marked-accounts}
+use Rattle.ledger.proofs.Handed.{none-handed}
+use Rattle.ledger.proofs.Lined.{lines-are}
 
 module _ (book : Book) where
-  abbrev originals : Owner → ℤ
-  originals o = budgetFor book o .original
+  -- the planned cost of activity i, with those below it
+  pub scheduled-at : {costs : List ℤ} → costs ≡ rolledCosts book → (i : ℕ) → i < length (parents book) → figureOf costs (i * 3) ≡ costOf book i .budget
+  unfolding rolledCosts
+  scheduled-at e i h =
+      let z : i * 3 ≡ i * 3 + 0 = omega arith in
+      ap (λ (t : List ℤ). figureOf t (i * 3)) e
+      ∙ ap (figureOf (rolledCosts book)) z
+      ∙ rows-at 3 (λ (i : ℕ). costFigures (costOf book i)) (λ i. refl) (length (parents book)) i 0 (pos 0) h (omega arith)
 
-  abbrev plans : Owner → ℤ
-  plans o = saturated w64 (pos 0) (budgetFor book o .plan)
+  pub costs-length : {costs : List ℤ} → costs ≡ rolledCosts book → length costs ≡ length (parents book) * 3
+  unfolding rolledCosts
+  costs-length e = ap length e ∙ rows-length 3 (λ (i : ℕ). costFigures (costOf book i)) (λ i. refl) (length (parents book))
 
-  below : (i : ℕ) → List·Memᴰ i (lineOwners book) → i < length (parents book)
-  unfolding lineOwners
-  below i q = omega (arith, span-in 0 (length (parents book)) i (keep-in (hasLine book) i (span 0 (length (parents book))) q .0))
+  -- as many as are marked, and the project's
+  pub lines-count : (marks : List ℕ) (n : ℕ) → n ≡ length (parents book) → MarksLines marks book → length (budgetLines book) ≡ length (markedOf marks n) + 1
+  unfolding budgetLines
+  lines-count marks n e m =
+      let line : ℕ → BudgetLine = λ (i : ℕ). lineFor book (some i) (depthOf book i) (costOf book i .budget) in
+      omega (arith, length-map (lineAccounts book) line, ap length (marked-accounts book marks n e m))
 
-  -- the columns by owner
-  pub record Owned (original current proposed distributed planned : List ℤ) : Type 0 where
-    pub first : original ≡ byOwner originals
-    pub sure : current ≡ byOwner (currentOf book)
-    pub wanted : proposed ≡ byOwner (proposedOf book)
-    pub handed : distributed ≡ byOwner (distributedOf book)
-    pub plan : planned ≡ byOwner plans
+  -- the rows that the code puts
+  pub rows-are : {lines : List BudgetLine} → lines ≡ budgetLines book → flatMap budgetRow lines ≡ numbers (budgetRows book)
+  unfolding numbers budgetRows
+  rows-are e = ap (flatMap budgetRow) e ∙ sym (flat-map (λ (row : List ℕ). row) budgetRow (budgetLines book))
 
-  module _ {original current proposed distributed planned : List ℤ} (w : Owned original current proposed distributed planned) where
-    figure : (f : Owner → ℤ) {xs : List ℤ} → xs ≡ byOwner f → (o : Owner) → Small o → figureOf xs (markOf o) ≡ f o
-    figure f e o h = ap (λ (ys : List ℤ). figureOf ys (markOf o)) e ∙ at-owner f o h
+  -- ---- a book without activities
 
-    line-is : (o : Owner) → Small o → (depth : ℕ) (cost : ℤ) → lineIn original current proposed distributed planned o depth cost ≡ lineFor book o depth cost
-    unfolding lineIn lineFor
-    line-is o h depth cost =
-        rw (figure originals (w .first) o h, figure (currentOf book) (w .sure) o h, figure (proposedOf book) (w .wanted) o h, figure (distributedOf book) (w .handed) o h, figure plans (w .plan) o h) refl
+  module _ (e : length (book .activities) ≡ 0) where
+    no-parents : parents book ≡ []
+    unfolding parents
+    no-parents = go (book .activities) e
+      where
+        go : (xs : List Activity) → length xs ≡ 0 → map (λ (a : Activity). a .parent) xs ≡ []
+        go [] e = refl
+        go (x ∷ xs) e = absurd (omega arith)
 
-    pub lines-are :
-        (numbers marks : List ℕ) (scheduled : List ℤ) (whole : ℤ) → length numbers ≡ length (parents book) → length (parents book) ≤ 500 → parentsOf numbers ≡ parents book →
-        MarksLines marks book → scheduled ≡ map (λ i. costOf book i .budget) (indices (parents book)) → whole ≡ projectCost book .budget →
-        linesIn original current proposed distributed planned numbers scheduled marks whole ≡ budgetLines book
-    unfolding linesIn budgetLines activityLine depthOf
-    lines-are numbers marks scheduled whole n l e m s p =
-        let ps = parents book in
-        ap₂ _∷_ (line-is none tt 0 whole ∙ ap (lineFor book none 0) p)
-        (ap (map (activityLine original current proposed distributed planned numbers scheduled)) (marked-owners book marks (length numbers) n m)
-        ∙ map-same _ _ (lineOwners book)
-        (λ i q.
-        let h = below i q in
-        line-is (some i) (omega arith) (1 + stepsMade (parentsOf numbers) (length numbers) i) (figureOf scheduled i)
-        ∙ ap₂ (lineFor book (some i)) (ap₂ (λ (t : Parents) (k : ℕ). 1 + stepsMade t k i) e n)
-        (ap (λ (xs : List ℤ). figureOf xs i) s ∙ made-at (λ (i : ℕ). costOf book i .budget) (pos 0) (length ps) i h)))
+    no-cost : pos 0 ≡ projectCost book .budget
+    unfolding projectCost leaves span keep
+    no-cost = sym (ap (λ (ps : List _). foldl sumOf noCost (map (costOf book) (leaves ps)) .budget) no-parents)
+
+    pub alone : {table : List ℤ} → table ≡ booked book → lineIn table none 0 (pos 0) ∷ [] ≡ budgetLines book
+    unfolding linesIn span keep parentsOf
+    alone t =
+        lines-are book [] [] [] (sym (ap length no-parents)) (omega (arith, ap length no-parents)) (sym no-parents) (λ i h. absurd (omega (arith, ap length no-parents)))
+        (λ i h. absurd (omega (arith, ap length no-parents))) no-cost (t ∙ none-handed book e)

@@ -1,4 +1,1 @@
-pub mod Rows
-pub mod Owners
-pub mod Arguments
-pub mod Lines
+pub mod Project

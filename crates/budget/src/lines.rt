@@ -1,202 +1,164 @@
-// The lines, from the columns, and their rows.
-use book::budgets::mark_of;
-use fields::OptionalNumber;
-use money::words::to_bits;
-use rows::put_optional;
-use tree::walk_up;
+// The lines of a book with activities.
+use crate::scheduled::scheduled;
+use activities::schedule::copy_parents;
+use activities::schedule::fill_schedule;
+use activities::schedule::parent_marks;
+use answers::Reply;
+use answers::TOO_SHORT;
+use answers::open::Opened;
+use ledger::hand_up;
+use ledger::lines::put_lines;
+use ledger::marks::count_marked;
 ghost use mathlib.Core.Path.{_≡_};
-ghost use mathlib.Core.List.{[], _∷_, map};
-ghost use mathlib.Core.Option.{none};
-ghost use Prim.Native.Nat.{_+_, _*_, _≤_, _<_};
-ghost use lib.ListN.{length};
-ghost use lib.Seq.{sets};
-ghost use Rattle.fields.specs.Optional.{numberOption};
+ghost use mathlib.Core.List.{map};
+ghost use Prim.Native.Nat.{ℕ, _*_, _≤_, _<_};
+ghost use lib.ListN.{length, getD};
+ghost use Rattle.format.specs.Book.{Book};
+ghost use Rattle.format.specs.Verdict.{content};
+ghost use Rattle.model.specs.Budgets.{budgetLines};
 ghost use Rattle.rows.specs.Rows.{numbers};
-ghost use Rattle.budget.specs.Rows.{budgetRow};
-ghost use Rattle.budget.specs.Owners.{AllOwners};
-ghost use Rattle.budget.specs.Lines.{lineOf, lineIn, activityLine, linesIn};
+ghost use Rattle.activities.specs.Columns.{parentNumber};
+ghost use Rattle.activities.specs.Schedule.{scheduleOf};
+ghost use Rattle.answers.specs.Opened.{IsOpened};
+ghost use Rattle.answers.specs.Rows.{budgetRows};
+ghost use Rattle.answers.specs.Calls.{Puts};
+ghost use Rattle.ledger.specs.Arguments.{AreParents, IsBooked, IsHanded};
 
-// A budget line. The depth has the steps that the walk from the activity made.
-pub struct Line {
-    pub activity: OptionalNumber,
-    pub depth: u64,
-    pub original: i64,
-    pub current: i64,
-    pub proposed: i64,
-    pub distributed: i64,
-    pub planned: i64,
-    pub scheduled: i64,
+// All of them. `costs` is for what is scheduled.
+fn put_in(
+    book: &[u8],
+    opened: Opened,
+    schedule: &[u64],
+    parents: &[u64],
+    accounts: &[i64; 3006],
+    marks: &[u64; 501],
+    costs: &mut [i64],
+    out: &mut [u64],
+)
+    requires { ⌜ IsOpened (now book) opened ⌝ }
+    requires { ⌜ (now schedule ≡ scheduleOf (content (now book))) × (now parents ≡ map parentNumber (content (now book) .activities)) ⌝ }
+    requires { ⌜ IsHanded (content (now book)) (now accounts) (now marks) ⌝ }
+    requires { ⌜ length (now costs) ≡ opened .plan .activities .count * 3 ⌝ }
+    requires { ⌜ length (now out) ≡ length (budgetLines (content (now book))) * 10 ⌝ }
+    ensures { λ r. ⌜ now (out .exit) ≡ numbers (budgetRows (content (now (book .entry)))) ⌝ }
+{
+    let whole = scheduled(book, opened, schedule, parents, costs);
+    put_lines(whole, parents, costs, marks, accounts, out);
 }
 
-// The line of an owner.
-fn line_at(
-    activity: OptionalNumber,
-    depth: u64,
-    scheduled: i64,
-    original: &[i64],
-    current: &[i64],
-    proposed: &[i64],
-    distributed: &[i64],
-    planned: &[i64],
-) -> Line
-    requires { ⌜ AllOwners (now original) (now current) (now proposed) (now distributed) (now planned) ⌝ }
-    ensures { λ r. ⌜ lineOf r ≡ lineIn (now (original .entry)) (now (current .entry)) (now (proposed .entry)) (now (distributed .entry)) (now (planned .entry)) (numberOption activity) depth scheduled ⌝ }
+// The same, with memory of its own.
+fn put_all(
+    book: &[u8],
+    opened: Opened,
+    schedule: &[u64],
+    parents: &[u64],
+    accounts: &[i64; 3006],
+    marks: &[u64; 501],
+    out: &mut [u64],
+)
+    requires { ⌜ IsOpened (now book) opened ⌝ }
+    requires { ⌜ (now schedule ≡ scheduleOf (content (now book))) × (now parents ≡ map parentNumber (content (now book) .activities)) ⌝ }
+    requires { ⌜ IsHanded (content (now book)) (now accounts) (now marks) ⌝ }
+    requires { ⌜ length (now out) ≡ length (budgetLines (content (now book))) * 10 ⌝ }
+    ensures { λ r. ⌜ now (out .exit) ≡ numbers (budgetRows (content (now (book .entry)))) ⌝ }
 {
-    let k = mark_of(activity);
-    Line {
-        activity,
-        depth,
-        original: original[k],
-        current: current[k],
-        proposed: proposed[k],
-        distributed: distributed[k],
-        planned: planned[k],
-        scheduled,
-    }
-}
-
-// Five numbers, one after the other.
-fn put_five(a: u64, b: u64, c: u64, d: u64, e: u64, at: usize, out: &mut [u64])
-    requires { ⌜ at + 5 ≤ length (now out) ⌝ }
-    ensures { λ r. ⌜ now (out .exit) ≡ sets (now (out .entry)) at (a ∷ b ∷ c ∷ d ∷ e ∷ []) ⌝ }
-{
-    out[at] = a;
-    out[at + 1] = b;
-    out[at + 2] = c;
-    out[at + 3] = d;
-    out[at + 4] = e;
-}
-
-// The ten numbers of a line.
-fn put_line(line: Line, at: usize, out: &mut [u64])
-    requires { ⌜ (at + 10 ≤ length (now out)) × (at ≤ 5000) ⌝ }
-    ensures { λ r. ⌜ now (out .exit) ≡ sets (now (out .entry)) at (budgetRow (lineOf line)) ⌝ }
-{
-    let activity = line.activity;
-    let original = to_bits(line.original);
-    let current = to_bits(line.current);
-    let proposed = to_bits(line.proposed);
-    let distributed = to_bits(line.distributed);
-    let planned = to_bits(line.planned);
-    let scheduled = to_bits(line.scheduled);
-    put_optional(activity, at, out);
-    out[at + 2] = line.depth;
-    put_five(
-        original,
-        current,
-        proposed,
-        distributed,
-        planned,
-        at + 3,
+    let mut costs = [0i64; 1500];
+    let n = opened.plan.activities.count as usize * 3;
+    put_in(
+        book,
+        opened,
+        schedule,
+        parents,
+        accounts,
+        marks,
+        &mut costs[..n],
         out,
     );
-    put_optional(OptionalNumber::Present(scheduled), at + 8, out);
 }
 
-// The project's line, before all others.
-fn put_project(
-    whole: i64,
-    original: &[i64],
-    current: &[i64],
-    proposed: &[i64],
-    distributed: &[i64],
-    planned: &[i64],
-    out: &mut [u64],
-)
-    requires { ⌜ AllOwners (now original) (now current) (now proposed) (now distributed) (now planned) ⌝ }
-    requires { ⌜ 10 ≤ length (now out) ⌝ }
-    ensures { λ r. ⌜ now (out .exit) ≡ sets (now (out .entry)) 0 (budgetRow (lineIn (now (original .entry)) (now (current .entry)) (now (proposed .entry)) (now (distributed .entry)) (now (planned .entry)) none 0 whole)) ⌝ }
+// What is read of the activities: their schedule, and their parents from it.
+fn read_activities(book: &[u8], opened: Opened, schedule: &mut [u64], parents: &mut [u64])
+    requires { ⌜ IsOpened (now book) opened ⌝ }
+    requires { ⌜ (length (now schedule) ≡ opened .plan .activities .count * 13) × (length (now parents) ≡ opened .plan .activities .count) ⌝ }
+    ensures read { λ r. ⌜ now (schedule .exit) ≡ scheduleOf (content (now (book .entry))) ⌝ }
+    ensures above { λ r. ⌜ now (parents .exit) ≡ map parentNumber (content (now (book .entry)) .activities) ⌝ }
 {
-    let line = line_at(
-        OptionalNumber::Absent,
-        0,
-        whole,
-        original,
-        current,
-        proposed,
-        distributed,
-        planned,
-    );
-    put_line(line, 0, out);
+    let date = opened.date;
+    fill_schedule(book, date, opened.plan, schedule);
+    copy_parents(schedule, parents);
 }
 
-// The line of an activity: its depth is 1 and the steps that its walk makes, at most as many as there are activities.
-fn put_activity(
-    i: usize,
-    at: usize,
+// The current budgets are handed up the tree. How many lines there are.
+fn hand_lines(
+    schedule: &[u64],
     parents: &[u64],
-    scheduled: &[i64],
-    original: &[i64],
-    current: &[i64],
-    proposed: &[i64],
-    distributed: &[i64],
-    planned: &[i64],
-    out: &mut [u64],
-)
-    requires { ⌜ (i < length (now parents)) × (length (now parents) ≤ 500) × (length (now scheduled) ≡ length (now parents)) ⌝ }
-    requires { ⌜ AllOwners (now original) (now current) (now proposed) (now distributed) (now planned) ⌝ }
-    requires { ⌜ (at + 10 ≤ length (now out)) × (at ≤ 5000) ⌝ }
-    ensures { λ r. ⌜ now (out .exit) ≡ sets (now (out .entry)) at (budgetRow (activityLine (now (original .entry)) (now (current .entry)) (now (proposed .entry)) (now (distributed .entry)) (now (planned .entry)) (now (parents .entry)) (now (scheduled .entry)) i)) ⌝ }
+    accounts: &mut [i64; 3006],
+    marks: &mut [u64; 501],
+) -> u64
+    requires { ⌜ (length (now schedule) ≤ 6500) × (length (now parents) ≤ 500) × ((i : ℕ) → i < length (now parents) → getD (now parents) i 0 < 501) ⌝ }
+    ensures most { λ r. ⌜ r ≤ 501 ⌝ }
+    ensures handed { λ r. ⌜ ((book : Book) → now (schedule .entry) ≡ scheduleOf book → AreParents book (now (parents .entry)) → IsBooked book (now (accounts .entry)) (now (marks .entry)) → IsHanded book (now (accounts .exit)) (now (marks .exit)) × (r ≡ length (budgetLines book))) ⌝ }
 {
-    let steps = walk_up(parents, i, parents.len() as u64);
-    let cost = scheduled[i];
-    let line = line_at(
-        OptionalNumber::Present(i as u64),
-        1 + steps,
-        cost,
-        original,
-        current,
-        proposed,
-        distributed,
-        planned,
-    );
-    put_line(line, at, out);
+    let leaves = parent_marks(schedule);
+    hand_up(parents, &leaves, accounts, marks);
+    count_marked(marks, parents.len()) + 1
 }
 
-// The project's line, then one for each activity that is marked.
-pub fn put_lines(
-    whole: i64,
-    parents: &[u64],
-    marks: &[u64],
-    scheduled: &[i64],
-    original: &[i64],
-    current: &[i64],
-    proposed: &[i64],
-    distributed: &[i64],
-    planned: &[i64],
+// `schedule` and `parents` are for what is read of the activities.
+fn lines_in(
+    book: &[u8],
+    opened: Opened,
+    schedule: &mut [u64],
+    parents: &mut [u64],
+    accounts: &mut [i64; 3006],
+    marks: &mut [u64; 501],
     out: &mut [u64],
-)
-    requires { ⌜ AllOwners (now original) (now current) (now proposed) (now distributed) (now planned) × (length (now parents) ≤ length (now marks)) × (length (now parents) ≤ 500) × (length (now scheduled) ≡ length (now parents)) ⌝ }
-    requires { ⌜ length (now out) ≡ length (linesIn (now original) (now current) (now proposed) (now distributed) (now planned) (now parents) (now scheduled) (now marks) whole) * 10 ⌝ }
-    ensures { λ r. ⌜ now (out .exit) ≡ numbers (map budgetRow (linesIn (now (original .entry)) (now (current .entry)) (now (proposed .entry)) (now (distributed .entry)) (now (planned .entry)) (now (parents .entry)) (now (scheduled .entry)) (now (marks .entry)) whole)) ⌝ }
+) -> Reply
+    requires { ⌜ IsOpened (now book) opened ⌝ }
+    requires { ⌜ (length (now schedule) ≡ opened .plan .activities .count * 13) × (length (now parents) ≡ opened .plan .activities .count) ⌝ }
+    requires { ⌜ IsBooked (content (now book)) (now accounts) (now marks) ⌝ }
+    ensures { λ r. ⌜ Puts (budgetRows (content (now (book .entry)))) (now (out .entry)) r (now (out .exit)) ⌝ }
 {
-    put_project(
-        whole,
-        original,
-        current,
-        proposed,
-        distributed,
-        planned,
-        out,
-    );
-    let mut at = 10;
-    let mut i = 0;
-    while i < parents.len() {
-        if marks[i] != 0 {
-            put_activity(
-                i,
-                at,
-                parents,
-                scheduled,
-                original,
-                current,
-                proposed,
-                distributed,
-                planned,
-                out,
-            );
-            at += 10;
-        }
-        i += 1;
+    read_activities(book, opened, schedule, parents);
+    let count = hand_lines(schedule, parents, accounts, marks);
+    let n = count as usize * 10;
+    if out.len() < n {
+        return Reply::Refused(TOO_SHORT, 0);
     }
+    put_all(
+        book,
+        opened,
+        schedule,
+        parents,
+        accounts,
+        marks,
+        &mut out[..n],
+    );
+    Reply::Accepted(count)
+}
+
+// The same, with memory of its own.
+pub fn lines_of(
+    book: &[u8],
+    opened: Opened,
+    accounts: &mut [i64; 3006],
+    marks: &mut [u64; 501],
+    out: &mut [u64],
+) -> Reply
+    requires { ⌜ IsOpened (now book) opened ⌝ }
+    requires { ⌜ IsBooked (content (now book)) (now accounts) (now marks) ⌝ }
+    ensures { λ r. ⌜ Puts (budgetRows (content (now (book .entry)))) (now (out .entry)) r (now (out .exit)) ⌝ }
+{
+    let mut schedule = [0u64; 6500];
+    let mut parents = [0u64; 500];
+    let n = opened.plan.activities.count as usize;
+    lines_in(
+        book,
+        opened,
+        &mut schedule[..n * 13],
+        &mut parents[..n],
+        accounts,
+        marks,
+        out,
+    )
 }

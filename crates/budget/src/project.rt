@@ -1,12 +1,12 @@
 // The project's own budget: what was first approved, and the approved changes.
-use crate::budgets::next_budget;
-use crate::changes::same_status;
 use book::Section;
-use book::budgets::mark_of;
 use book::layout::Ledger;
 use book::layout::Plan;
 use fields::OptionalNumber;
 use format::ChangeStatus;
+use ledger::accounts::account_number;
+use ledger::budgets::next_budget;
+use ledger::changes::status_number;
 use money::sums::saturating_add;
 use records::budgets::BudgetChange;
 use records::budgets::read_budget_change;
@@ -14,25 +14,32 @@ ghost use mathlib.Core.Path.{_≡_};
 ghost use mathlib.Core.Option.{none};
 ghost use lib.ListN.{replicate};
 ghost use Rattle.format.specs.declared.ChangeStatus.the-variants.{Approved};
+ghost use Rattle.format.specs.Format.{names};
 ghost use Rattle.format.specs.Verdict.{content};
 ghost use Rattle.fields.specs.Optional.{numberOption};
 ghost use Rattle.records.specs.Decoded.{budgetChangeOf};
 ghost use Rattle.book.specs.Plan.{IsPlanOf, IsLedgerOf};
-ghost use Rattle.model.specs.Budgets.{sameOwner, budgetFor, changes, currentOf};
-ghost use Rattle.budget.specs.Owners.{addedTo};
-ghost use Rattle.budget.specs.Arguments.{IsBudgets, IsLog};
+ghost use Rattle.model.specs.Budgets.{sameStatus, budgetFor, changes, currentOf};
+ghost use Rattle.budget.specs.Project.{addedTo};
+ghost use Rattle.ledger.specs.Arguments.{IsBudgets, IsLog};
 
-fn is_project(owner: OptionalNumber) -> bool
-    ensures { λ r. ⌜ r ≡ sameOwner (numberOption owner) none ⌝ }
+fn is_project(account: OptionalNumber) -> bool
+    ensures { λ r. ⌜ r ≡ names (numberOption account) none ⌝ }
 {
-    match owner {
+    match account {
         OptionalNumber::Absent => true,
         OptionalNumber::Present(_) => false,
     }
 }
 
+fn is_approved(status: ChangeStatus) -> bool
+    ensures { λ r. ⌜ r ≡ sameStatus status Approved ⌝ }
+{
+    status_number(status) == 1
+}
+
 // What was first approved for it. Those with a budget before its own are marked.
-fn project_original(book: &[u8], list: Section, activities: u64, marks: &mut [u64]) -> i64
+fn project_original(book: &[u8], list: Section, activities: u64, marks: &mut [u64; 501]) -> i64
     requires { ⌜ IsBudgets (now book) list activities ⌝ }
     requires { ⌜ now marks ≡ replicate 501 0 ⌝ }
     ensures { λ r. ⌜ r ≡ budgetFor (content (now (book .entry))) none .original ⌝ }
@@ -42,11 +49,11 @@ fn project_original(book: &[u8], list: Section, activities: u64, marks: &mut [u6
     let mut i: u64 = 0;
     while i < count {
         let b = next_budget(book, next, activities, marks);
-        let owner = b.activity;
-        if is_project(owner) {
+        let account = b.activity;
+        if is_project(account) {
             return b.original;
         }
-        let k = mark_of(owner);
+        let k = account_number(account);
         marks[k] = 1;
         next = b.next;
         i += 1;
@@ -58,10 +65,10 @@ fn project_original(book: &[u8], list: Section, activities: u64, marks: &mut [u6
 fn add_change(sum: i64, change: BudgetChange) -> i64
     ensures { λ r. ⌜ r ≡ addedTo none Approved sum (budgetChangeOf change) ⌝ }
 {
-    let owner = change.activity;
-    if is_project(owner) {
+    let account = change.activity;
+    if is_project(account) {
         let status = change.status;
-        if same_status(status, ChangeStatus::Approved) {
+        if is_approved(status) {
             return saturating_add(sum, change.amount);
         }
     }
@@ -92,12 +99,8 @@ pub fn project_current(book: &[u8], date: OptionalNumber, plan: Plan, ledger: Le
     requires { ⌜ IsLedgerOf (now book) plan ledger ⌝ }
     ensures { λ r. ⌜ r ≡ currentOf (content (now (book .entry))) none ⌝ }
 {
-    let activities = plan.activities;
-    let count = activities.count;
-    let budgets = ledger.budgets;
-    let log = ledger.log;
     let mut marks = [0u64; 501];
-    let original = project_original(book, budgets, count, &mut marks);
-    let changed = project_changes(book, log, count);
+    let original = project_original(book, ledger.budgets, plan.activities.count, &mut marks);
+    let changed = project_changes(book, ledger.log, plan.activities.count);
     saturating_add(original, changed)
 }

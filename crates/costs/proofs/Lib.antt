@@ -3,5 +3,5 @@ pub mod Columns
 pub mod Charged
 pub mod Turns
 pub mod Nothing
-pub mod Figured
-pub mod Planned
+pub mod Owned
+pub mod Answering

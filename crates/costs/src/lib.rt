@@ -1,43 +1,38 @@
-// What the activities themselves cost: their assignments and expenses, and their cost and units by kind of resource.
+// What the activities themselves cost: their assignments and expenses, and their actual costs and units by kind of resource.
 use activities::Stretch;
-use book::Section;
-use format::ResourceKind;
-use model::Way;
+use book::layout::Plan;
 
 pub mod assignments;
-pub mod bykind;
 pub mod calendars;
+pub mod calls;
 pub mod expenses;
-pub mod figures;
-pub mod filled;
-pub mod kinds;
 pub mod own;
 pub mod stretched;
-pub mod threes;
-pub mod units;
 
-// What an assignment is charged for: its cost by date, or, where its resource is of a kind, its cost as one amount.
+// The figures of an activity's row: its own costs three ways, or its own actual costs and units by kind.
 pub enum Charge {
     Own,
-    CostOf(ResourceKind),
+    Kinds,
 }
 
-// What is charged, and which way.
-pub struct Task {
+// An assignment, by its number, with its activity and its resource, and the first date of the table that counts its activity's days.
+pub struct Entry {
+    pub activity: usize,
+    pub number: usize,
+    pub resource: usize,
+    pub base: u64,
+}
+
+// The assignments of one calendar: what is charged, the calendar's number, the first date of the table that counts it.
+pub struct Turn {
     pub what: Charge,
-    pub way: Way,
+    pub calendar: u64,
+    pub base: u64,
 }
 
-// Three tasks, each with its own column of sums.
-pub struct Tasks {
-    pub one: Task,
-    pub two: Task,
-    pub three: Task,
-}
-
-// Three tasks, with the book's calendars and the stretch of dates that the activities' spans take.
+// All assignments of a plan, over the stretch of dates that the activities' spans take.
 pub struct Job {
-    pub tasks: Tasks,
-    pub calendars: Section,
+    pub what: Charge,
+    pub plan: Plan,
     pub known: Stretch,
 }

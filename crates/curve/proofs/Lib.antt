@@ -1,4 +1,4 @@
 pub mod Running
 pub mod Narrow
-pub mod Budgeted
-pub mod Tabling
+pub mod Planning
+pub mod Curving

@@ -17,7 +17,7 @@ use Rattle.model.specs.Planned.{plannedByDay, running, plannedCurve, plannedCur
 use Rattle.model.proofs.Lists.{keep-none, keep-keep, keep-same}
 use Rattle.model.proofs.Points.{all-dates, points-none}
 use Rattle.model.proofs.Curve.{isBefore, curve-between}
-use Rattle.spending.proofs.Pointing.{points-narrow}
+use Rattle.bydate.proofs.Pointing.{points-narrow}
 
 -- where two tests agree on what a list has
 keep-agree : {A : Type 0} (p q : A → Bool) (xs : List A) → ((x : A) → List·Memᴰ x xs → p x ≡ q x) → keep p xs ≡ keep q xs

@@ -1,313 +1,220 @@
 // The planned curve: the running total of what is planned by date, over all leaves.
-use crate::leaves::lay_leaves;
-use crate::totals::write_totals;
-use activities::Stretch;
-use activities::stretches::earlier;
-use activities::stretches::later;
-use activities::stretches::stretch;
-use book::layout::Baseline;
-use book::layout::Plan;
-use book::leaves::leaf_marks;
-use calendar::all::fill_all;
-use earned::columns::list_columns;
-use fields::OptionalNumber;
-use spending::is_small;
-ghost use Prim.Native.Nat.{_+_, _≤_, _<_};
-ghost use lib.ListN.{length};
-ghost use Rattle.format.specs.Verdict.{content};
-ghost use Rattle.book.specs.Plan.{IsPlanOf, IsBaselineOf};
-ghost use Rattle.model.specs.Tree.{parents};
-ghost use Rattle.model.specs.Planned.{plannedCurveBetween};
-ghost use Rattle.tree.specs.Figures.{MarksLeaves};
-ghost use Rattle.spending.specs.Charges.{rowOf, AreTables};
-ghost use Rattle.spending.specs.Rows.{pointRows, Writes};
-ghost use Rattle.earned.specs.Columns.{AreColumns, FourLong};
-ghost use Rattle.curve.specs.Columns.{AreAsked};
-
 pub mod leaves;
 pub mod totals;
 
-// The rows between two dates of a stretch that covers the spans, by lent tables. The total starts at the first date of the stretch.
-fn rows_in(
-    book: &[u8],
-    plan: Plan,
-    leaves: &[u64],
-    budgets: &[i64],
-    firsts: &[u64],
-    lasts: &[u64],
-    calendars: &[u64],
-    known: Stretch,
-    lo: u64,
-    hi: u64,
-    days: &mut [u8],
-    sums: &mut [i64],
-    marks: &mut [u8],
-    out: &mut [u64],
-) -> u64
-    requires { ⌜ AreAsked (now book) plan (now leaves) (now budgets) (now firsts) (now lasts) (now calendars) known lo hi ⌝ }
-    requires { ⌜ AreTables known (plan .calendars .count) (known .from) (known .to) (now days) (now sums) (now marks) ⌝ }
-    ensures { λ r. ⌜ Writes (pointRows (plannedCurveBetween (content (now (book .entry))) lo hi)) r (now (out .entry)) (now (out .exit)) ⌝ }
-{
-    let list = plan.calendars;
-    fill_all(book, list, known.from, known.to, days);
-    lay_leaves(
-        leaves,
-        budgets,
-        firsts,
-        lasts,
-        calendars,
-        days,
-        known,
-        known.from,
-        sums,
-        marks,
-    );
-    write_totals(known.from, lo, hi, marks, sums, out)
+use crate::leaves::lay_leaves;
+use crate::totals::write_totals;
+use activities::Stretch;
+use activities::schedule::WIDTH;
+use activities::schedule::fill_schedule;
+use activities::schedule::parent_marks;
+use activities::stretches::earlier;
+use activities::stretches::later;
+use activities::stretches::stretch_of;
+use answers::Reply;
+use answers::open::Opened;
+use baseline::listed::list_spans;
+use calendar::all::fill_all;
+use costs::own::own_costs;
+ghost use mathlib.Core.Bool.{true};
+ghost use mathlib.Core.List.{map};
+ghost use mathlib.Core.Path.{_≡_};
+ghost use Prim.Native.Nat.{_+_, _*_, _-_, _≤_};
+ghost use lib.ListN.{length};
+ghost use Rattle.format.specs.Verdict.{content};
+ghost use Rattle.model.specs.Planned.{plannedByDay, plannedCurveBetween};
+ghost use Rattle.answers.specs.Calls.{Puts};
+ghost use Rattle.answers.specs.Opened.{IsOpened};
+ghost use Rattle.answers.specs.Rows.{pointRow, plannedCurveRows};
+ghost use Rattle.bydate.specs.Laid.{Laid};
+ghost use Rattle.curve.specs.Asking.{AreLists, IsAsked, widthOf, HasRoom, FitsSmall};
+
+// What is asked of an opened book: the dates between two of the stretch that its listed spans take.
+pub struct Asked {
+    pub opened: Opened,
+    pub known: Stretch,
+    pub from: u64,
+    pub to: u64,
 }
 
-// The same, by small tables.
+// What planned value is made of: the leaf marks, the listed spans and the leaves' budgets.
+fn fill_lists(
+    book: &[u8],
+    opened: Opened,
+    schedule: &mut [u64],
+    costs: &mut [i64],
+    listed: &mut [u64],
+    budgets: &mut [i64],
+) -> [u64; 500]
+    requires { ⌜ IsOpened (now book) opened ⌝ }
+    requires { ⌜ HasRoom (opened .plan .activities .count) (now schedule) (now costs) (now listed) (now budgets) ⌝ }
+    ensures { λ r. ⌜ AreLists (content (now (book .entry))) r (now (listed .exit)) (now (budgets .exit)) ⌝ }
+{
+    let date = opened.date;
+    fill_schedule(book, date, opened.plan, schedule);
+    own_costs(book, date, opened.plan, schedule, costs);
+    list_spans(book, opened, schedule, costs, listed, budgets);
+    parent_marks(schedule)
+}
+
+// Lays what is planned by date. The table of the days is to work in.
+fn lay_plan(
+    book: &[u8],
+    asked: Asked,
+    marks: &[u64; 500],
+    budgets: &[i64],
+    listed: &[u64],
+    days: &mut [u8],
+    table: &mut [u64],
+)
+    requires { ⌜ IsAsked (now book) asked (now marks) (now listed) (now budgets) ⌝ }
+    requires { ⌜ asked .opened .plan .calendars .count * widthOf asked ≤ length (now days) ⌝ }
+    ensures { λ r. ⌜ Laid (asked .known .from) (plannedByDay (content (now (book .entry)))) (now (table .entry)) (now (table .exit)) ⌝ }
+{
+    fill_all(
+        book,
+        asked.opened.plan.calendars,
+        asked.known.from,
+        asked.known.to,
+        days,
+    );
+    let width = asked.known.to + 1 - asked.known.from;
+    lay_leaves(marks, budgets, listed, days, asked.known.from, width, table);
+}
+
+// The rows, by small tables.
 fn small_rows(
     book: &[u8],
-    plan: Plan,
-    leaves: &[u64],
+    asked: Asked,
+    marks: &[u64; 500],
     budgets: &[i64],
-    firsts: &[u64],
-    lasts: &[u64],
-    calendars: &[u64],
-    known: Stretch,
-    lo: u64,
-    hi: u64,
+    listed: &[u64],
     out: &mut [u64],
-) -> u64
-    requires { ⌜ AreAsked (now book) plan (now leaves) (now budgets) (now firsts) (now lasts) (now calendars) known lo hi ⌝ }
-    requires { ⌜ (rowOf known (plan .calendars .count) ≤ 4096) × (known .to < known .from + 1024) ⌝ }
-    ensures { λ r. ⌜ Writes (pointRows (plannedCurveBetween (content (now (book .entry))) lo hi)) r (now (out .entry)) (now (out .exit)) ⌝ }
+) -> Reply
+    requires { ⌜ IsAsked (now book) asked (now marks) (now listed) (now budgets) ⌝ }
+    requires { ⌜ FitsSmall asked ⌝ }
+    ensures { λ r. ⌜ Puts (map pointRow (plannedCurveBetween (content (now (book .entry))) (asked .from) (asked .to))) (now (out .entry)) r (now (out .exit)) ⌝ }
 {
     let mut days = [0u8; 4096];
-    let mut sums = [0i64; 1024];
-    let mut marks = [0u8; 1024];
-    rows_in(
-        book,
-        plan,
-        leaves,
-        budgets,
-        firsts,
-        lasts,
-        calendars,
-        known,
-        lo,
-        hi,
-        &mut days,
-        &mut sums,
-        &mut marks,
-        out,
-    )
+    let mut table = [0u64; 2048];
+    lay_plan(book, asked, marks, budgets, listed, &mut days, &mut table);
+    write_totals(asked.known.from, asked.from, asked.to, &mut table, out)
 }
 
-// The same, by tables for all dates of a book and as many calendars as it may have.
+// The rows, by a table for all dates of a book.
+fn full_table(
+    book: &[u8],
+    asked: Asked,
+    marks: &[u64; 500],
+    budgets: &[i64],
+    listed: &[u64],
+    days: &mut [u8; 584400],
+    out: &mut [u64],
+) -> Reply
+    requires { ⌜ IsAsked (now book) asked (now marks) (now listed) (now budgets) ⌝ }
+    ensures { λ r. ⌜ Puts (map pointRow (plannedCurveBetween (content (now (book .entry))) (asked .from) (asked .to))) (now (out .entry)) r (now (out .exit)) ⌝ }
+{
+    let mut table = [0u64; 73050];
+    lay_plan(book, asked, marks, budgets, listed, days, &mut table);
+    write_totals(asked.known.from, asked.from, asked.to, &mut table, out)
+}
+
+// The same, with room for the days of as many calendars as a book may have.
 fn full_rows(
     book: &[u8],
-    plan: Plan,
-    leaves: &[u64],
+    asked: Asked,
+    marks: &[u64; 500],
     budgets: &[i64],
-    firsts: &[u64],
-    lasts: &[u64],
-    calendars: &[u64],
-    known: Stretch,
-    lo: u64,
-    hi: u64,
+    listed: &[u64],
     out: &mut [u64],
-) -> u64
-    requires { ⌜ AreAsked (now book) plan (now leaves) (now budgets) (now firsts) (now lasts) (now calendars) known lo hi ⌝ }
-    requires { ⌜ (rowOf known (plan .calendars .count) ≤ 584400) × (known .to < known .from + 36525) ⌝ }
-    ensures { λ r. ⌜ Writes (pointRows (plannedCurveBetween (content (now (book .entry))) lo hi)) r (now (out .entry)) (now (out .exit)) ⌝ }
+) -> Reply
+    requires { ⌜ IsAsked (now book) asked (now marks) (now listed) (now budgets) ⌝ }
+    ensures { λ r. ⌜ Puts (map pointRow (plannedCurveBetween (content (now (book .entry))) (asked .from) (asked .to))) (now (out .entry)) r (now (out .exit)) ⌝ }
 {
     let mut days = [0u8; 584400];
-    let mut sums = [0i64; 36525];
-    let mut marks = [0u8; 36525];
-    rows_in(
-        book,
-        plan,
-        leaves,
-        budgets,
-        firsts,
-        lasts,
-        calendars,
-        known,
-        lo,
-        hi,
-        &mut days,
-        &mut sums,
-        &mut marks,
-        out,
-    )
+    full_table(book, asked, marks, budgets, listed, &mut days, out)
 }
 
-// The same, by tables that are large enough.
-fn rows_between(
-    book: &[u8],
-    plan: Plan,
-    leaves: &[u64],
-    budgets: &[i64],
-    firsts: &[u64],
-    lasts: &[u64],
-    calendars: &[u64],
-    known: Stretch,
-    lo: u64,
-    hi: u64,
-    out: &mut [u64],
-) -> u64
-    requires { ⌜ AreAsked (now book) plan (now leaves) (now budgets) (now firsts) (now lasts) (now calendars) known lo hi ⌝ }
-    ensures { λ r. ⌜ Writes (pointRows (plannedCurveBetween (content (now (book .entry))) lo hi)) r (now (out .entry)) (now (out .exit)) ⌝ }
+// Whether the small tables are large enough.
+fn is_small(asked: Asked) -> bool
+    requires { ⌜ (asked .known .from ≤ asked .known .to + 1) × (asked .known .to ≤ 47481) × (asked .opened .plan .calendars .count ≤ 16) ⌝ }
+    ensures { λ r. ⌜ (r ≡ true → FitsSmall asked) ⌝ }
 {
-    let list = plan.calendars;
-    if is_small(list.count, known.to + 1 - known.from) {
-        return small_rows(
-            book,
-            plan,
-            leaves,
-            budgets,
-            firsts,
-            lasts,
-            calendars,
-            known,
-            lo,
-            hi,
-            out,
-        );
+    let width = asked.known.to + 1 - asked.known.from;
+    if 1024 < width {
+        return false;
     }
-    full_rows(
-        book,
-        plan,
-        leaves,
-        budgets,
-        firsts,
-        lasts,
-        calendars,
-        known,
-        lo,
-        hi,
-        out,
-    )
+    asked.opened.plan.calendars.count * width <= 4096
 }
 
-// The rows between two dates, from columns of the leaves' budgets, the listed spans and the calendars; none where the first date is later.
+// The rows between two dates, from what planned value is made of.
 fn rows_of(
     book: &[u8],
-    plan: Plan,
-    leaves: &[u64],
+    opened: Opened,
+    between: Stretch,
+    marks: &[u64; 500],
     budgets: &[i64],
-    firsts: &[u64],
-    lasts: &[u64],
-    calendars: &[u64],
-    from: u64,
-    to: u64,
+    listed: &[u64],
     out: &mut [u64],
-) -> u64
-    requires { ⌜ AreColumns (now book) plan (now leaves) (now budgets) (now firsts) (now lasts) (now calendars) ⌝ }
-    ensures { λ r. ⌜ Writes (pointRows (plannedCurveBetween (content (now (book .entry))) from to)) r (now (out .entry)) (now (out .exit)) ⌝ }
+) -> Reply
+    requires { ⌜ IsOpened (now book) opened ⌝ }
+    requires { ⌜ AreLists (content (now book)) (now marks) (now listed) (now budgets) ⌝ }
+    ensures { λ r. ⌜ Puts (map pointRow (plannedCurveBetween (content (now (book .entry))) (between .from) (between .to))) (now (out .entry)) r (now (out .exit)) ⌝ }
 {
-    let known = stretch(firsts, lasts);
-    let lo = later(from, known.from);
-    let hi = earlier(to, known.to);
-    if hi < lo {
-        return 0;
-    }
-    rows_between(
-        book,
-        plan,
-        leaves,
-        budgets,
-        firsts,
-        lasts,
-        calendars,
+    let known = stretch_of(listed, budgets.len(), 3, 0);
+    let asked = Asked {
+        opened,
         known,
-        lo,
-        hi,
-        out,
-    )
+        from: later(between.from, known.from),
+        to: earlier(between.to, known.to),
+    };
+    if asked.to < asked.from {
+        return Reply::Accepted(0);
+    }
+    if is_small(asked) {
+        return small_rows(book, asked, marks, budgets, listed, out);
+    }
+    full_rows(book, asked, marks, budgets, listed, out)
 }
 
-// The rows between two dates, with columns to work in.
+// The rows between two dates, with slices to work in.
 fn rows_by(
     book: &[u8],
-    date: OptionalNumber,
-    plan: Plan,
-    baseline: Baseline,
-    leaves: &[u64],
+    opened: Opened,
+    between: Stretch,
+    schedule: &mut [u64],
+    costs: &mut [i64],
+    listed: &mut [u64],
     budgets: &mut [i64],
-    firsts: &mut [u64],
-    lasts: &mut [u64],
-    calendars: &mut [u64],
-    from: u64,
-    to: u64,
     out: &mut [u64],
-) -> u64
-    requires { ⌜ IsPlanOf (now book) date plan ⌝ }
-    requires { ⌜ IsBaselineOf (now book) plan baseline ⌝ }
-    requires { ⌜ MarksLeaves (now leaves) (parents (content (now book))) × (plan .activities .count ≤ length (now leaves)) ⌝ }
-    requires { ⌜ FourLong (plan .activities .count) (now budgets) (now firsts) (now lasts) (now calendars) ⌝ }
-    ensures { λ r. ⌜ Writes (pointRows (plannedCurveBetween (content (now (book .entry))) from to)) r (now (out .entry)) (now (out .exit)) ⌝ }
+) -> Reply
+    requires { ⌜ IsOpened (now book) opened ⌝ }
+    requires { ⌜ HasRoom (opened .plan .activities .count) (now schedule) (now costs) (now listed) (now budgets) ⌝ }
+    ensures { λ r. ⌜ Puts (map pointRow (plannedCurveBetween (content (now (book .entry))) (between .from) (between .to))) (now (out .entry)) r (now (out .exit)) ⌝ }
 {
-    list_columns(
-        book,
-        date,
-        plan,
-        baseline,
-        leaves,
-        budgets,
-        firsts,
-        lasts,
-        calendars,
-    );
-    rows_of(
-        book,
-        plan,
-        leaves,
-        budgets,
-        firsts,
-        lasts,
-        calendars,
-        from,
-        to,
-        out,
-    )
+    let marks = fill_lists(book, opened, schedule, costs, listed, budgets);
+    rows_of(book, opened, between, &marks, budgets, listed, out)
 }
 
-// The points of the planned curve between two dates, both included, as rows: written where they fit. How many numbers they are.
-pub fn curve_rows(
-    book: &[u8],
-    date: OptionalNumber,
-    plan: Plan,
-    baseline: Baseline,
-    from: u64,
-    to: u64,
-    out: &mut [u64],
-) -> u64
-    requires { ⌜ IsPlanOf (now book) date plan ⌝ }
-    requires { ⌜ IsBaselineOf (now book) plan baseline ⌝ }
-    ensures { λ r. ⌜ Writes (pointRows (plannedCurveBetween (content (now (book .entry))) from to)) r (now (out .entry)) (now (out .exit)) ⌝ }
+// The points of the planned curve between two dates, both included.
+pub fn planned_curve_of(book: &[u8], opened: Opened, from: u64, to: u64, out: &mut [u64]) -> Reply
+    requires { ⌜ IsOpened (now book) opened ⌝ }
+    ensures { λ r. ⌜ Puts (plannedCurveRows from to (content (now (book .entry)))) (now (out .entry)) r (now (out .exit)) ⌝ }
 {
-    let activities = plan.activities;
-    let calendars = plan.calendars;
-    let n = activities.count as usize;
-    let leaves = leaf_marks(book, activities, calendars.count);
+    let mut schedule = [0u64; 6500];
+    let mut costs = [0i64; 1500];
+    let mut listed = [0u64; 1500];
     let mut budgets = [0i64; 500];
-    let mut firsts = [0u64; 500];
-    let mut lasts = [0u64; 500];
-    let mut kept = [0u64; 500];
+    let n = opened.plan.activities.count as usize;
+    let between = Stretch { from, to };
     rows_by(
         book,
-        date,
-        plan,
-        baseline,
-        &leaves,
+        opened,
+        between,
+        &mut schedule[..n * WIDTH],
+        &mut costs[..n * 3],
+        &mut listed[..n * 3],
         &mut budgets[..n],
-        &mut firsts[..n],
-        &mut lasts[..n],
-        &mut kept[..n],
-        from,
-        to,
         out,
     )
 }

@@ -1,31 +1,33 @@
-// The running total over a table of sums by date, and its points as rows. The table and the marks of its dates begin at the date `lo`.
+// The running total over a table by date, and its points as rows.
+use answers::Reply;
+use bydate::points::is_marked;
+use bydate::points::write_points;
 use money::sums::saturating_add;
-use spending::days::is_working;
-use spending::points::write_points;
+use money::words::from_bits;
+use money::words::to_bits;
+ghost use mathlib.Core.List.{map};
 ghost use mathlib.Core.Path.{_≡_};
-ghost use Prim.Native.Nat.{_+_, _≤_, _<_};
+ghost use Prim.Native.Nat.{_≤_};
 ghost use lib.IntN.{pos};
-ghost use lib.ListN.{length};
 ghost use Rattle.model.specs.Lists.{keep};
 ghost use Rattle.model.specs.Amounts.{isBetween};
 ghost use Rattle.model.specs.Planned.{running};
-ghost use Rattle.spending.specs.Listed.{Covers};
-ghost use Rattle.spending.specs.Rows.{pointRows, written, markedSums};
+ghost use Rattle.answers.specs.Calls.{Puts};
+ghost use Rattle.answers.specs.Rows.{pointRow};
+ghost use Rattle.bydate.specs.Pointed.{pointsIn, Reaches};
 
-// The sum of each marked date becomes the total up to it.
-fn run_up(lo: u64, hi: u64, marks: &[u8], sums: &mut [i64])
-    requires { ⌜ Covers lo (now marks) lo hi ⌝ }
-    requires { ⌜ hi < lo + length (now sums) ⌝ }
-    ensures { λ r. ⌜ markedSums lo hi (now (sums .exit)) (now (marks .entry)) ≡ running (pos 0) (markedSums lo hi (now (sums .entry)) (now (marks .entry))) ⌝ }
+// The sum of each marked date between two becomes the total from the first of them up to it.
+fn run_up(base: u64, first: u64, to: u64, table: &mut [u64])
+    requires { ⌜ Reaches base (now table) first to ⌝ }
+    ensures { λ r. ⌜ pointsIn base (now (table .exit)) first to ≡ running (pos 0) (pointsIn base (now (table .entry)) first to) ⌝ }
 {
     let mut total: i64 = 0;
-    let mut date = lo;
-    while date <= hi {
-        if is_working(marks, lo, date) {
-            let i = (date - lo) as usize;
-            let sum = sums[i];
-            total = saturating_add(total, sum);
-            sums[i] = total;
+    let mut date = first;
+    while date <= to {
+        if is_marked(table, base, date) {
+            let at = (date - base) as usize * 2 + 1;
+            total = saturating_add(total, from_bits(table[at]));
+            table[at] = to_bits(total);
             date += 1;
             continue;
         }
@@ -33,22 +35,11 @@ fn run_up(lo: u64, hi: u64, marks: &[u8], sums: &mut [i64])
     }
 }
 
-// The points of the running total from the date `from` on, written where they fit. How many numbers they are.
-pub fn write_totals(
-    lo: u64,
-    from: u64,
-    hi: u64,
-    marks: &[u8],
-    sums: &mut [i64],
-    out: &mut [u64],
-) -> u64
-    requires { ⌜ Covers lo (now marks) lo hi ⌝ }
-    requires { ⌜ hi < lo + length (now sums) ⌝ }
-    requires { ⌜ (lo ≤ from) × (from ≤ hi) ⌝ }
-    ensures { λ r. ⌜ r ≡ length (pointRows (keep (isBetween from hi) (running (pos 0) (markedSums lo hi (now (sums .entry)) (now (marks .entry)))))) ⌝ }
-    ensures { λ r. ⌜ now (out .exit) ≡ written (pointRows (keep (isBetween from hi) (running (pos 0) (markedSums lo hi (now (sums .entry)) (now (marks .entry)))))) (now (out .entry)) ⌝ }
+// The points of the running total between two dates: the rows where they fit. The total starts at the table's first date.
+pub fn write_totals(base: u64, from: u64, to: u64, table: &mut [u64], out: &mut [u64]) -> Reply
+    requires { ⌜ Reaches base (now table) from to ⌝ }
+    ensures { λ r. ⌜ Puts (map pointRow (keep (isBetween from to) (running (pos 0) (pointsIn base (now (table .entry)) base to)))) (now (out .entry)) r (now (out .exit)) ⌝ }
 {
-    run_up(lo, hi, marks, sums);
-    let k = (from - lo) as usize;
-    write_points(from, hi, &sums[k..], &marks[k..], out)
+    run_up(base, base, to, table);
+    write_points(base, from, to, table, out)
 }

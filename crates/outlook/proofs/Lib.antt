@@ -1,1 +1,1 @@
-pub mod Outlook
+pub mod Rowed

@@ -1,4 +1,2 @@
-pub mod Scans
-pub mod Written
+pub mod Recording
 pub mod Made
-pub mod Stored

@@ -1,83 +1,122 @@
 // The financial periods of a book, as rows.
-use crate::columns::fill_finishes;
+use crate::finishes::fill_finishes;
 use crate::listed::project_planned;
-use crate::points::record_rows;
-use book::layout::Ledger;
-use book::layout::Plan;
-use book::leaves::leaf_marks;
-use fields::OptionalNumber;
-ghost use Prim.Native.Nat.{_*_, _≤_};
+use crate::points::put_points;
+use crate::points::take_records;
+use activities::schedule::fill_schedule;
+use activities::schedule::parent_marks;
+use answers::Reply;
+use answers::TOO_SHORT;
+use answers::open::Opened;
+ghost use Prim.Native.Nat.{ℕ, _*_, _≤_};
 ghost use mathlib.Core.Path.{_≡_};
-ghost use mathlib.Core.List.{map};
+ghost use lib.IntN.{pos};
 ghost use lib.ListN.{length};
 ghost use Rattle.format.specs.Verdict.{content};
-ghost use Rattle.book.specs.Plan.{IsPlanOf, IsLedgerOf};
 ghost use Rattle.model.specs.Tree.{parents};
-ghost use Rattle.model.specs.Periods.{periodPoints};
-ghost use Rattle.tree.specs.Figures.{MarksLeaves};
+ghost use Rattle.tree.specs.Figures.{figureOf, MarksLeaves};
 ghost use Rattle.rows.specs.Rows.{numbers};
-ghost use Rattle.periods.specs.Rows.{periodRow};
+ghost use Rattle.activities.specs.Schedule.{scheduleOf};
+ghost use Rattle.answers.specs.Rows.{periodPointsRows};
+ghost use Rattle.answers.specs.Opened.{IsOpened};
+ghost use Rattle.answers.specs.Calls.{Puts};
 
-mod columns;
+mod finishes;
 mod listed;
 mod points;
 
-// The rows, with columns of the periods to work in.
-fn fill_marked(
+// The closes, the planned values, the figures of the records, then the rows; tables of the periods are lent, that of the figures with zeros.
+fn put_figures(
     book: &[u8],
-    date: OptionalNumber,
-    plan: Plan,
-    ledger: Ledger,
+    opened: Opened,
+    schedule: &[u64],
     marks: &[u64],
     finishes: &mut [u64],
     planned: &mut [i64],
+    figures: &mut [i64],
     out: &mut [u64],
 )
-    requires { ⌜ IsPlanOf (now book) date plan ⌝ }
-    requires { ⌜ IsLedgerOf (now book) plan ledger ⌝ }
-    requires { ⌜ MarksLeaves (now marks) (parents (content (now book))) × (plan .activities .count ≤ length (now marks)) ⌝ }
-    requires { ⌜ (length (now finishes) ≡ ledger .periods .count) × (length (now planned) ≡ ledger .periods .count) × (length (now out) ≡ ledger .periods .count * 7) ⌝ }
-    ensures { λ r. ⌜ now (out .exit) ≡ numbers (map periodRow (periodPoints (content (now (book .entry))))) ⌝ }
+    requires { ⌜ IsOpened (now book) opened ⌝ }
+    requires { ⌜ now schedule ≡ scheduleOf (content (now book)) ⌝ }
+    requires { ⌜ MarksLeaves (now marks) (parents (content (now book))) × (500 ≤ length (now marks)) ⌝ }
+    requires { ⌜ (length (now finishes) ≡ opened .ledger .periods .count) × (length (now planned) ≡ opened .ledger .periods .count) × (length (now figures) ≡ opened .ledger .periods .count * 3) × (length (now out) ≡ opened .ledger .periods .count * 7) ⌝ }
+    requires { ⌜ ((i : ℕ) → figureOf (now figures) i ≡ pos 0) ⌝ }
+    ensures { λ r. ⌜ now (out .exit) ≡ numbers (periodPointsRows (content (now (book .entry)))) ⌝ }
 {
-    let activities = plan.activities;
-    let baseline = ledger.baseline;
-    let periods = ledger.periods;
-    let records = ledger.records;
-    fill_finishes(book, periods, finishes);
-    project_planned(book, date, plan, baseline, marks, finishes, planned);
-    record_rows(
+    fill_finishes(book, opened.ledger.periods, finishes);
+    project_planned(book, opened, schedule, marks, finishes, planned);
+    take_records(
         book,
-        records,
-        activities.count,
+        opened.ledger.records,
+        opened.plan.activities.count,
         marks,
         finishes,
-        planned,
+        figures,
+    );
+    put_points(finishes, planned, figures, out);
+}
+
+// The rows of at most 240 periods.
+fn put_periods(book: &[u8], opened: Opened, schedule: &[u64], marks: &[u64], out: &mut [u64])
+    requires { ⌜ IsOpened (now book) opened ⌝ }
+    requires { ⌜ now schedule ≡ scheduleOf (content (now book)) ⌝ }
+    requires { ⌜ MarksLeaves (now marks) (parents (content (now book))) × (500 ≤ length (now marks)) ⌝ }
+    requires { ⌜ length (now out) ≡ opened .ledger .periods .count * 7 ⌝ }
+    ensures { λ r. ⌜ now (out .exit) ≡ numbers (periodPointsRows (content (now (book .entry)))) ⌝ }
+{
+    let n = opened.ledger.periods.count as usize;
+    let size = n * 3;
+    let mut finishes = [0u64; 240];
+    let mut planned = [0i64; 240];
+    let mut figures = [0i64; 720];
+    put_figures(
+        book,
+        opened,
+        schedule,
+        marks,
+        &mut finishes[..n],
+        &mut planned[..n],
+        &mut figures[..size],
         out,
     );
 }
 
-// The rows of the periods of an accepted book, in the book's order.
-pub fn fill_periods(book: &[u8], date: OptionalNumber, plan: Plan, ledger: Ledger, out: &mut [u64])
-    requires { ⌜ IsPlanOf (now book) date plan ⌝ }
-    requires { ⌜ IsLedgerOf (now book) plan ledger ⌝ }
-    requires { ⌜ length (now out) ≡ ledger .periods .count * 7 ⌝ }
-    ensures { λ r. ⌜ now (out .exit) ≡ numbers (map periodRow (periodPoints (content (now (book .entry))))) ⌝ }
+// By a schedule that is lent to be filled.
+fn put_scheduled(book: &[u8], opened: Opened, schedule: &mut [u64], out: &mut [u64])
+    requires { ⌜ IsOpened (now book) opened ⌝ }
+    requires { ⌜ length (now schedule) ≡ opened .plan .activities .count * 13 ⌝ }
+    requires { ⌜ length (now out) ≡ opened .ledger .periods .count * 7 ⌝ }
+    ensures { λ r. ⌜ now (out .exit) ≡ numbers (periodPointsRows (content (now (book .entry)))) ⌝ }
 {
-    let activities = plan.activities;
-    let calendars = plan.calendars;
-    let periods = ledger.periods;
-    let count = periods.count as usize;
-    let marks = leaf_marks(book, activities, calendars.count);
-    let mut finishes = [0u64; 240];
-    let mut planned = [0i64; 240];
-    fill_marked(
-        book,
-        date,
-        plan,
-        ledger,
-        &marks,
-        &mut finishes[..count],
-        &mut planned[..count],
-        out,
-    );
+    let data_date = opened.date;
+    fill_schedule(book, data_date, opened.plan, schedule);
+    let marks = parent_marks(schedule);
+    put_periods(book, opened, schedule, &marks, out);
+}
+
+// A row for each financial period.
+fn fill_periods(book: &[u8], opened: Opened, out: &mut [u64])
+    requires { ⌜ IsOpened (now book) opened ⌝ }
+    requires { ⌜ length (now out) ≡ opened .ledger .periods .count * 7 ⌝ }
+    ensures { λ r. ⌜ now (out .exit) ≡ numbers (periodPointsRows (content (now (book .entry)))) ⌝ }
+{
+    let size = opened.plan.activities.count as usize * 13;
+    let mut schedule = [0u64; 6500];
+    put_scheduled(book, opened, &mut schedule[..size], out);
+}
+
+// The same where the rows fit; without periods nothing is read.
+pub fn period_points_of(book: &[u8], opened: Opened, out: &mut [u64]) -> Reply
+    requires { ⌜ IsOpened (now book) opened ⌝ }
+    ensures { λ r. ⌜ Puts (periodPointsRows (content (now (book .entry)))) (now (out .entry)) r (now (out .exit)) ⌝ }
+{
+    let n = opened.ledger.periods.count as usize * 7;
+    if out.len() < n {
+        return Reply::Refused(TOO_SHORT, 0);
+    }
+    if n == 0 {
+        return Reply::Accepted(0);
+    }
+    fill_periods(book, opened, &mut out[..n]);
+    Reply::Accepted(opened.ledger.periods.count)
 }

@@ -1,254 +1,106 @@
-// What is earned and spent to date, and the rows of the periods, from columns.
-use crate::columns::fill_records;
+// The figures that the records make, and the rows of the periods.
 use book::Section;
-use fields::OptionalNumber;
-use money::sums::saturating_add;
 use money::words::to_bits;
-use rows::put_optional;
-ghost use Prim.Native.Nat.{_+_, _*_, _≤_};
+use records::periods::PeriodRecord;
+use records::periods::read_period_record;
+use todate::ACTUAL;
+use todate::EARNED;
+use todate::WIDTH;
+use todate::add_entry;
+use todate::entry_of;
+ghost use Prim.Native.Nat.{_+_, _*_, _≤_, _<_};
 ghost use mathlib.Core.Path.{_≡_};
-ghost use mathlib.Core.List.{map};
-ghost use mathlib.Core.Option.{Option·map};
-ghost use lib.IntN.{pos};
+ghost use mathlib.Core.List.{flatMap};
 ghost use lib.ListN.{length};
 ghost use lib.Seq.{sets};
-ghost use mir.Syntax.{w64};
-ghost use Rattle.integer.specs.Folds.{saturated};
-ghost use Rattle.money.specs.Words.{bits};
-ghost use Rattle.fields.specs.Optional.{numberOption};
 ghost use Rattle.format.specs.InRange.{Every, PeriodRecordInRange};
 ghost use Rattle.format.specs.Format as layout;
+ghost use Rattle.records.specs.Decoded.{periodRecordOf};
 ghost use Rattle.book.specs.Sections.{alikeIn};
 ghost use Rattle.model.specs.Lists.{span};
-ghost use Rattle.rows.specs.Rows.{numbers};
-ghost use Rattle.periods.specs.Rows.{periodRow};
-ghost use Rattle.periods.specs.Columns.{isIn, closedBy, toDateIn, pointOf, rowAt, rowsOf, Long};
+ghost use Rattle.tree.specs.Figures.{figureOf};
+ghost use Rattle.calendar.specs.Changes.{Changed};
+ghost use Rattle.periods.specs.Points.{recordedOne, recorded, ifStored, pointRow, pointAt};
 
-// Whether a record of period p is stored.
-fn is_stored(periods: &[u64], p: u64) -> bool
-    ensures { λ r. ⌜ r ≡ isIn p (now (periods .entry)) ⌝ }
+// Takes a record of a leaf into the figures, and none of a parent; `finishes`: when the periods close.
+fn take_record(x: PeriodRecord, marks: &[u64], finishes: &[u64], figures: &mut [i64])
+    requires { ⌜ (x .activity < length (now marks)) × (x .period < length (now finishes)) ⌝ }
+    requires { ⌜ length (now figures) ≡ length (now finishes) * 3 ⌝ }
+    ensures { λ r. ⌜ Changed 3 (recordedOne (now (marks .entry)) (now (finishes .entry)) (periodRecordOf x)) (now (figures .entry)) (now (figures .exit)) ⌝ }
 {
-    let mut i = 0;
-    while i < periods.len() {
-        if periods[i] == p {
-            return true;
-        }
-        i += 1;
-    }
-    false
-}
-
-// The amounts that are closed by a date, added up in the book's order.
-fn sum_to(date: u64, closes: &[u64], amounts: &[i64]) -> i64
-    requires { ⌜ length (now amounts) ≡ length (now closes) ⌝ }
-    ensures { λ r. ⌜ r ≡ saturated w64 (pos 0) (closedBy date (now (closes .entry)) (now (amounts .entry))) ⌝ }
-{
-    let mut sum: i64 = 0;
-    let mut i = 0;
-    while i < closes.len() {
-        if closes[i] <= date {
-            let x = amounts[i];
-            sum = saturating_add(sum, x);
-        }
-        i += 1;
-    }
-    sum
-}
-
-// The sum to date of a period that closes at the date, in two's complement; absent where nothing of it is stored.
-fn to_date(p: u64, date: u64, periods: &[u64], closes: &[u64], amounts: &[i64]) -> OptionalNumber
-    requires { ⌜ length (now amounts) ≡ length (now closes) ⌝ }
-    ensures { λ r. ⌜ numberOption r ≡ Option·map bits (toDateIn (now (periods .entry)) (now (closes .entry)) (now (amounts .entry)) p date) ⌝ }
-{
-    if is_stored(periods, p) {
-        let sum = sum_to(date, closes, amounts);
-        return OptionalNumber::Present(to_bits(sum));
-    }
-    OptionalNumber::Absent
-}
-
-// The row of period p, which closes at the date, from number `at` on.
-fn put_point(
-    p: u64,
-    date: u64,
-    planned: i64,
-    periods: &[u64],
-    closes: &[u64],
-    earned: &[i64],
-    actual: &[i64],
-    at: usize,
-    out: &mut [u64],
-)
-    requires { ⌜ (length (now earned) ≡ length (now closes)) × (length (now actual) ≡ length (now closes)) ⌝ }
-    requires { ⌜ at + 7 ≤ length (now out) ⌝ }
-    ensures { λ r. ⌜ now (out .exit) ≡ sets (now (out .entry)) at (periodRow (pointOf p date planned (now (periods .entry)) (now (closes .entry)) (now (earned .entry)) (now (actual .entry)))) ⌝ }
-{
-    let worth = to_date(p, date, periods, closes, earned);
-    let spent = to_date(p, date, periods, closes, actual);
-    out[at] = p;
-    out[at + 1] = date;
-    out[at + 2] = to_bits(planned);
-    put_optional(worth, at + 3, out);
-    put_optional(spent, at + 5, out);
-}
-
-// The rows of all periods.
-pub fn fill_points(
-    finishes: &[u64],
-    planned: &[i64],
-    periods: &[u64],
-    closes: &[u64],
-    earned: &[i64],
-    actual: &[i64],
-    out: &mut [u64],
-)
-    requires { ⌜ length (now planned) ≡ length (now finishes) ⌝ }
-    requires { ⌜ (length (now earned) ≡ length (now closes)) × (length (now actual) ≡ length (now closes)) ⌝ }
-    requires { ⌜ length (now out) ≡ length (now finishes) * 7 ⌝ }
-    ensures { λ r. ⌜ now (out .exit) ≡ numbers (map (rowAt (now (finishes .entry)) (now (planned .entry)) (now (periods .entry)) (now (closes .entry)) (now (earned .entry)) (now (actual .entry))) (span 0 (length (now (finishes .entry))))) ⌝ }
-{
-    let mut at: usize = 0;
-    let mut p: usize = 0;
-    while p < finishes.len() {
-        let value = planned[p];
-        put_point(
-            p as u64,
-            finishes[p],
-            value,
-            periods,
-            closes,
-            earned,
-            actual,
-            at,
-            out,
-        );
-        at += 7;
-        p += 1;
+    if marks[x.activity as usize] == 0 {
+        let entry = entry_of(x);
+        add_entry(entry, finishes, figures);
     }
 }
 
-// The rows with the records of the book; `periods`, `closes`, `earned` and `actual` are columns to work in.
-fn fill_rows(
+// Each record in the book's order, in a book with so many activities.
+pub fn take_records(
     book: &[u8],
     list: Section,
     activities: u64,
     marks: &[u64],
     finishes: &[u64],
-    planned: &[i64],
-    periods: &mut [u64],
-    closes: &mut [u64],
-    earned: &mut [i64],
-    actual: &mut [i64],
-    out: &mut [u64],
+    figures: &mut [i64],
 )
     requires { ⌜ Every (PeriodRecordInRange (length (now finishes)) activities) (alikeIn (layout.periodRecord (length (now finishes)) activities) (now book) list) ⌝ }
     requires { ⌜ activities ≤ length (now marks) ⌝ }
-    requires { ⌜ Long (list .count) (now periods) (now closes) (now earned) (now actual) ⌝ }
-    requires { ⌜ (length (now planned) ≡ length (now finishes)) × (length (now out) ≡ length (now finishes) * 7) ⌝ }
-    ensures { λ r. ⌜ now (out .exit) ≡ numbers (rowsOf (now (finishes .entry)) (now (planned .entry)) (now (marks .entry)) (alikeIn (layout.periodRecord (length (now (finishes .entry))) activities) (now (book .entry)) list)) ⌝ }
+    requires { ⌜ length (now figures) ≡ length (now finishes) * 3 ⌝ }
+    ensures { λ r. ⌜ Changed 3 (recorded (now (marks .entry)) (now (finishes .entry)) (alikeIn (layout.periodRecord (length (now (finishes .entry))) activities) (now (book .entry)) list)) (now (figures .entry)) (now (figures .exit)) ⌝ }
 {
-    fill_records(
-        book,
-        list,
-        activities,
-        marks,
-        finishes,
-        periods,
-        closes,
-        earned,
-        actual,
-    );
-    fill_points(finishes, planned, periods, closes, earned, actual, out);
-}
-
-// Of up to 64 records.
-fn few_records(
-    book: &[u8],
-    list: Section,
-    activities: u64,
-    marks: &[u64],
-    finishes: &[u64],
-    planned: &[i64],
-    out: &mut [u64],
-)
-    requires { ⌜ Every (PeriodRecordInRange (length (now finishes)) activities) (alikeIn (layout.periodRecord (length (now finishes)) activities) (now book) list) ⌝ }
-    requires { ⌜ (activities ≤ length (now marks)) × (list .count ≤ 64) ⌝ }
-    requires { ⌜ (length (now planned) ≡ length (now finishes)) × (length (now out) ≡ length (now finishes) * 7) ⌝ }
-    ensures { λ r. ⌜ now (out .exit) ≡ numbers (rowsOf (now (finishes .entry)) (now (planned .entry)) (now (marks .entry)) (alikeIn (layout.periodRecord (length (now (finishes .entry))) activities) (now (book .entry)) list)) ⌝ }
-{
-    let count = list.count as usize;
-    let mut periods = [0u64; 64];
-    let mut closes = [0u64; 64];
-    let mut earned = [0i64; 64];
-    let mut actual = [0i64; 64];
-    fill_rows(
-        book,
-        list,
-        activities,
-        marks,
-        finishes,
-        planned,
-        &mut periods[..count],
-        &mut closes[..count],
-        &mut earned[..count],
-        &mut actual[..count],
-        out,
-    );
-}
-
-// Of up to 2,000 records.
-fn many_records(
-    book: &[u8],
-    list: Section,
-    activities: u64,
-    marks: &[u64],
-    finishes: &[u64],
-    planned: &[i64],
-    out: &mut [u64],
-)
-    requires { ⌜ Every (PeriodRecordInRange (length (now finishes)) activities) (alikeIn (layout.periodRecord (length (now finishes)) activities) (now book) list) ⌝ }
-    requires { ⌜ (activities ≤ length (now marks)) × (list .count ≤ 2000) ⌝ }
-    requires { ⌜ (length (now planned) ≡ length (now finishes)) × (length (now out) ≡ length (now finishes) * 7) ⌝ }
-    ensures { λ r. ⌜ now (out .exit) ≡ numbers (rowsOf (now (finishes .entry)) (now (planned .entry)) (now (marks .entry)) (alikeIn (layout.periodRecord (length (now (finishes .entry))) activities) (now (book .entry)) list)) ⌝ }
-{
-    let count = list.count as usize;
-    let mut periods = [0u64; 2000];
-    let mut closes = [0u64; 2000];
-    let mut earned = [0i64; 2000];
-    let mut actual = [0i64; 2000];
-    fill_rows(
-        book,
-        list,
-        activities,
-        marks,
-        finishes,
-        planned,
-        &mut periods[..count],
-        &mut closes[..count],
-        &mut earned[..count],
-        &mut actual[..count],
-        out,
-    );
-}
-
-// Of up to 2,000 records, with small columns for few.
-pub fn record_rows(
-    book: &[u8],
-    list: Section,
-    activities: u64,
-    marks: &[u64],
-    finishes: &[u64],
-    planned: &[i64],
-    out: &mut [u64],
-)
-    requires { ⌜ Every (PeriodRecordInRange (length (now finishes)) activities) (alikeIn (layout.periodRecord (length (now finishes)) activities) (now book) list) ⌝ }
-    requires { ⌜ (activities ≤ length (now marks)) × (list .count ≤ 2000) ⌝ }
-    requires { ⌜ (length (now planned) ≡ length (now finishes)) × (length (now out) ≡ length (now finishes) * 7) ⌝ }
-    ensures { λ r. ⌜ now (out .exit) ≡ numbers (rowsOf (now (finishes .entry)) (now (planned .entry)) (now (marks .entry)) (alikeIn (layout.periodRecord (length (now (finishes .entry))) activities) (now (book .entry)) list)) ⌝ }
-{
-    if list.count <= 64 {
-        few_records(book, list, activities, marks, finishes, planned, out);
-        return;
+    let count = list.count;
+    let periods = finishes.len() as u64;
+    let mut next = list.first;
+    let mut i: u64 = 0;
+    while i < count {
+        let x = read_period_record(book, next, periods, activities);
+        take_record(x, marks, finishes, figures);
+        next = x.next;
+        i += 1;
     }
-    many_records(book, list, activities, marks, finishes, planned, out);
+}
+
+// A figure's bits by the mark of its period: 0 where nothing is stored.
+fn if_stored(stored: i64, figure: i64) -> u64
+    ensures { λ r. ⌜ r ≡ ifStored stored figure ⌝ }
+{
+    if to_bits(stored) == 0 {
+        return 0;
+    }
+    to_bits(figure)
+}
+
+// The row of period p, which closes at `finish`.
+fn put_point(p: usize, finish: u64, planned: i64, figures: &[i64], out: &mut [u64])
+    requires { ⌜ (p * 3 + 3 ≤ length (now figures)) × (p * 7 + 7 ≤ length (now out)) ⌝ }
+    ensures { λ r. ⌜ now (out .exit) ≡ sets (now (out .entry)) (p * 7) (pointRow p finish planned (figureOf (now (figures .entry)) (p * 3)) (figureOf (now (figures .entry)) (p * 3 + 1)) (figureOf (now (figures .entry)) (p * 3 + 2))) ⌝ }
+{
+    let stored = figures[p * WIDTH];
+    let earned = figures[p * WIDTH + EARNED];
+    let actual = figures[p * WIDTH + ACTUAL];
+    let value = to_bits(planned);
+    let mark = to_bits(stored);
+    let worth = if_stored(stored, earned);
+    let spent = if_stored(stored, actual);
+    let at = p * 7;
+    out[at] = p as u64;
+    out[at + 1] = finish;
+    out[at + 2] = value;
+    out[at + 3] = mark;
+    out[at + 4] = worth;
+    out[at + 5] = mark;
+    out[at + 6] = spent;
+}
+
+// The rows of all periods.
+pub fn put_points(finishes: &[u64], planned: &[i64], figures: &[i64], out: &mut [u64])
+    requires { ⌜ (length (now planned) ≡ length (now finishes)) × (length (now figures) ≡ length (now finishes) * 3) × (length (now out) ≡ length (now finishes) * 7) ⌝ }
+    ensures { λ r. ⌜ now (out .exit) ≡ flatMap (pointAt (now (finishes .entry)) (now (planned .entry)) (now (figures .entry))) (span 0 (length (now (finishes .entry)))) ⌝ }
+{
+    let mut p = 0;
+    while p < finishes.len() {
+        let value = planned[p];
+        put_point(p, finishes[p], value, figures, out);
+        p += 1;
+    }
 }

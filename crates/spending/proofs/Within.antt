@@ -21,12 +21,9 @@ use Rattle.model.specs.Amounts.{Dated, on, dated, spreadOver, isDated, isCharge
 use Rattle.model.specs.Tree.{parents, indices}
 use Rattle.model.specs.Costs.{priced, accrued, pricedBy, byDay, budgetByDay}
 use Rattle.model.proofs.Lists.{span-in, take-in}
-use Rattle.spending.specs.Charges.{Charge, work, cost, charges, chargedTo, chargedOver, chargeOf}
+use Rattle.bydate.proofs.Falling.{charged-some, charged-dated}
+use Rattle.spending.specs.Charged.{Charge, work, cost, charges, chargedTo, chargedOver, chargeOf}
 use Rattle.spending.proofs.Charging.{by-day}
-
-either : {P : Type 0} (a b : Bool) → (a ≡ true → P) → (b ≡ true → P) → (a || b) ≡ true → P
-either true b f g e = f refl
-either false b f g e = g e
 
 drop-in : {A : Type 0} (x : A) (n : ℕ) (xs : List A) → List·Memᴰ x (drop n xs) → List·Memᴰ x xs
 drop-in x zero xs m = m
@@ -35,31 +32,9 @@ drop-in x (suc n) (y ∷ ys) m = List·Memᴰ·tail (drop-in x n ys m)
 
 -- a date on which something falls, and what follows from that
 module _ (d : ℕ) {P : Type 0} where
-  charged-append : (xs ys : List Dated) → (isCharged xs d ≡ true → P) → (isCharged ys d ≡ true → P) → isCharged (xs ++ ys) d ≡ true → P
-  unfolding isCharged any
-  charged-append [] ys f g e = g e
-  charged-append (x ∷ xs) ys f g e =
-      either (isDated d x) (any (isDated d) (xs ++ ys)) (λ h. f (ap (λ (b : Bool). b || any (isDated d) xs) h)) (charged-append xs ys (λ h. f (late (isDated d x) h)) g) e
-    where
-      late : (b : Bool) → any (isDated d) xs ≡ true → (b || any (isDated d) xs) ≡ true
-      late true h = refl
-      late false h = h
-
-  pub charged-some : {A : Type 0} (f : A → List Dated) (xs : List A) → ((x : A) → List·Memᴰ x xs → isCharged (f x) d ≡ true → P) → isCharged (flatMap f xs) d ≡ true → P
-  unfolding flatMap isCharged any
-  charged-some f [] h e = absurd (true≢false (sym e))
-  charged-some f (x ∷ xs) h e = charged-append (f x) (flatMap f xs) (h x (List·Memᴰ·head refl)) (charged-some f xs (λ y m. h y (List·Memᴰ·tail m))) e
-
-  pub charged-dated : (days : List ℕ) (zs : List ℤ) → (List·Memᴰ d days → P) → isCharged (dated days zs) d ≡ true → P
-  unfolding isCharged any zipWith
-  charged-dated [] zs h e = absurd (true≢false (sym e))
-  charged-dated (x ∷ days) [] h e = absurd (true≢false (sym e))
-  charged-dated (x ∷ days) (z ∷ zs) h e =
-      either (eqb x d) (any (isDated d) (dated days zs)) (λ q. h (List·Memᴰ·head (sym (eqb-true x d q)))) (charged-dated days zs (λ m. h (List·Memᴰ·tail m))) e
-
   charged-priced : (z : ℤ) (days : List ℕ) (price : ℕ → ℤ) → (List·Memᴰ d days → P) → isCharged (priced z days price) d ≡ true → P
   unfolding priced spreadOver isCharged any
-  charged-priced z days price h e = charged-dated days (spread z (length days)) h (sym (same (dated days (spread z (length days)))) ∙ e)
+  charged-priced z days price h e = charged-dated d days (spread z (length days)) h (sym (same (dated days (spread z (length days)))) ∙ e)
     where
       same : (xs : List Dated) → any (isDated d) (map (λ (x : Dated). on (x .day) (pricedAt (x .amount) (price (x .day)))) xs) ≡ any (isDated d) xs
       same [] = refl
@@ -67,9 +42,9 @@ module _ (d : ℕ) {P : Type 0} where
 
   charged-accrued : (z : ℤ) (days : List ℕ) (a : Accrual) → (List·Memᴰ d days → P) → isCharged (accrued z days a) d ≡ true → P
   unfolding accrued spreadOver
-  charged-accrued z days Start h e = charged-dated (take 1 days) (z ∷ []) (λ m. h (take-in d 1 days m)) e
-  charged-accrued z days End h e = charged-dated (drop (length days - 1) days) (z ∷ []) (λ m. h (drop-in d (length days - 1) days m)) e
-  charged-accrued z days Uniform h e = charged-dated days (spread z (length days)) h e
+  charged-accrued z days Start h e = charged-dated d (take 1 days) (z ∷ []) (λ m. h (take-in d 1 days m)) e
+  charged-accrued z days End h e = charged-dated d (drop (length days - 1) days) (z ∷ []) (λ m. h (drop-in d (length days - 1) days m)) e
+  charged-accrued z days Uniform h e = charged-dated d days (spread z (length days)) h e
 
   charged-over : (book : Book) (days : List ℕ) (c : Charge) → (List·Memᴰ d days → P) → isCharged (chargedOver book days c) d ≡ true → P
   unfolding isCharged any
@@ -92,8 +67,8 @@ module _ (d : ℕ) {P : Type 0} where
   pub budget-day : (book : Book) → ((i : ℕ) → i < length (book .activities) → List·Memᴰ d (daysOf book Planned i) → P) → isCharged (budgetByDay book) d ≡ true → P
   unfolding budgetByDay parents
   budget-day book h e =
-      charged-some (byDay book Planned) (indices (parents book))
-      (λ i m q. charged-some (chargeOf book i (daysOf book Planned i)) (charges book)
+      charged-some d (byDay book Planned) (indices (parents book))
+      (λ i m q. charged-some d (chargeOf book i (daysOf book Planned i)) (charges book)
       (λ c k. charged-of book i (daysOf book Planned i) c (h i (omega (arith, span-in 0 (length (parents book)) i m, length-map (book .activities) (λ (a : Activity). a .parent)))))
       (sym (ap (λ (xs : List Dated). isCharged xs d) (by-day book i)) ∙ q))
       e

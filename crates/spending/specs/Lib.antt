@@ -1,7 +1,5 @@
-pub mod Laid
-pub mod Dealt
-pub mod Listed
-pub mod Charges
-pub mod Rows
-pub mod Months
-pub mod Planned
+pub mod Priced
+pub mod Chained
+pub mod Charged
+pub mod Budgeted
+pub mod Grained

@@ -1,4 +1,7 @@
-pub mod Lasting
+pub mod Changing
+pub mod Costing
 pub mod Counting
+pub mod Dating
 pub mod Reaching
-pub mod Made
+pub mod Settling
+pub mod Varying

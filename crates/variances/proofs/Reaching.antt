@@ -1,88 +1,75 @@
--- The stretch: what a loop that takes the dates of one line more a turn keeps.
-use Prim.Native.Nat.{ℕ, zero, suc, _+_, _≤_, _<_, min, max}
+-- The stretch: what a loop that takes one date more a turn keeps, and that four of them have all dates.
+use Prim.Native.Nat.{ℕ, zero, suc, _+_, _*_, _/_, _≤_, _<_, min, max}
 use native.Mathlib.Omega.{arith}
-use native.Mathlib.Decide.{decLt}
-use mathlib.Core.Path.{_≡_, refl, ap}
+use native.Mathlib.Decide.{ℕ-discrete}
+use mathlib.Core.Path.{_≡_, refl, sym, subst}
+use mathlib.Core.Bool.{true}
 use mathlib.Core.List.{List}
-use lib.ListN.{length, getD, List·getD-eq-default}
+use lib.ListN.{length, getD}
 use Rattle.format.specs.InRange.{IsDate}
 use Rattle.activities.specs.declared.Stretch.{Stretch}
-use Rattle.variances.specs.Columns.{DatesInRange, InStretch, Within, Wider, reachedBy}
+use Rattle.variances.specs.Changed.{rowOf}
+use Rattle.activities.specs.Schedule.{entryAt}
+use Rattle.variances.specs.Days.{hasLine, Tables, InStretch, Reaches, Bounded, widened, AreDates, Takes, Dated}
+use Rattle.variances.proofs.Changing.{row-at}
 
-pub reached-none : (known : Stretch) (line early : ℕ) → line ≡ 0 → known ≡ reachedBy known line early
-reached-none known zero early e = refl
-reached-none known (suc d) early e = absurd (omega arith)
+pub widened-none : (known : Stretch) (date : ℕ) → date ≡ 0 → known ≡ widened known date
+widened-none known zero e = refl
+widened-none known (suc d) e = absurd (omega arith)
 
-pub reached-some :
-    (known : Stretch) (line early : ℕ) → (line ≡ 0 → ⊥) → record { from = min (known .from) (min line early); to = max (known .to) (max line early) } ≡ reachedBy known line early
-reached-some known zero early h = absurd (h refl)
-reached-some known (suc d) early h = refl
+pub widened-some : (known : Stretch) (date : ℕ) → (date ≡ 0 → ⊥) → record { from = min (known .from) date; to = max (known .to) date } ≡ widened known date
+widened-some known zero h = absurd (h refl)
+widened-some known (suc d) h = refl
 
-wider-date : {known r : Stretch} → Wider known r → {date : ℕ} → InStretch known date → InStretch r date
-wider-date w h = record { since = omega (arith, w .from, h .since); upTo = omega (arith, w .to, h .upTo) }
+-- ---- the loop
 
-pub wider-within : {known r : Stretch} → Wider known r → 10957 ≤ r .from → r .to ≤ 47481 → {line early : List ℕ} → Within known line early → Within r line early
-wider-within w least most h =
-    record { least = least; most = most; lines = λ i k. wider-date w (h .lines i k); earlies = λ i k. wider-date w (h .earlies i k) }
+pub takes-none : {known : Stretch} {table : List ℕ} {width at : ℕ} → Bounded known → Takes known table 0 width at known
+takes-none b = record { bounded = b; from = omega arith; to = omega arith; dates = λ i h. absurd (omega arith) }
 
-module _ (known : Stretch) (line early : List ℕ) where
-  -- the dates of the first i lines are of the stretch
-  pub record Reaching (i : ℕ) (r : Stretch) : Type 0 where
-    pub least : 10957 ≤ r .from
-    pub most : r .to ≤ 47481
-    pub wider : Wider known r
-    pub lines : (j : ℕ) → j < i → 0 < getD line j 0 → InStretch r (getD line j 0)
-    pub earlies : (j : ℕ) → j < i → 0 < getD line j 0 → InStretch r (getD early j 0)
-
-  pub reaching-none : 10957 ≤ known .from → known .to ≤ 47481 → Reaching 0 known
-  reaching-none h l =
-      record { least = h; most = l; wider = record { from = omega arith; to = omega arith }; lines = λ j k. absurd (omega arith); earlies = λ j k. absurd (omega arith) }
-
-module _ {known : Stretch} {line early : List ℕ} {i : ℕ} {r : Stretch} (w : Reaching known line early i r) where
-  pub reaching-more : DatesInRange line early → {q : Stretch} → q ≡ reachedBy r (getD line i 0) (getD early i 0) → Reaching known line early (i + 1) q
-  reaching-more d {q} e = rw e (go (getD line i 0) refl)
+module _ {known : Stretch} {table : List ℕ} {i width at : ℕ} {r : Stretch} (w : Takes known table i width at r) where
+  pub takes-more : {n : ℕ} → i < n → AreDates table n width at → {q : Stretch} → q ≡ widened r (getD table (i * width + at) 0) → Takes known table (i + 1) width at q
+  takes-more {n} l dates {q} e = rw e (go (getD table (i * width + at) 0) refl (dates i l))
     where
-      go : (x : ℕ) → getD line i 0 ≡ x → Reaching known line early (i + 1) (reachedBy r x (getD early i 0))
-      go zero z =
+      go : (d : ℕ) → getD table (i * width + at) 0 ≡ d → (0 < getD table (i * width + at) 0 → IsDate (getD table (i * width + at) 0)) → Takes known table (i + 1) width at (widened r d)
+      go zero z date = record { bounded = w .bounded; from = w .from; to = w .to; dates = λ j h k. one j h k (ℕ-discrete j i) }
+        where
+          one : (j : ℕ) → j < i + 1 → 0 < getD table (j * width + at) 0 → Dec (j ≡ i) → InStretch r (getD table (j * width + at) 0)
+          one j h k (yes s) = let none : 0 < getD table (i * width + at) 0 = rw s at k in absurd (omega arith)
+          one j h k (no s) = w .dates j (omega arith) k
+      go (suc d) z date =
           record {
-            least = w .least;
-            most = w .most;
-            wider = w .wider;
-            lines = λ j h k. w .lines j (before j h k (decLt j i)) k;
-            earlies = λ j h k. w .earlies j (before j h k (decLt j i)) k;
+            bounded = record { least = omega (arith, w .bounded .least, date (omega arith) .first); latest = omega (arith, w .bounded .latest); most = omega (arith, w .bounded .most, date (omega arith) .last) };
+            from = omega (arith, w .from);
+            to = omega (arith, w .to);
+            dates = λ j h k. one j h k (ℕ-discrete j i);
           }
         where
-          before : (j : ℕ) → j < i + 1 → 0 < getD line j 0 → Dec (j < i) → j < i
-          before j h k (yes l) = l
-          before j h k (no l) = let same : j ≡ i = omega arith in absurd (omega (arith, ap (λ (k : ℕ). getD line k 0) same))
-      go (suc n) z =
-          record {
-            least = omega (arith, w .least, dates .0 .first, dates .1 .first);
-            most = omega (arith, w .most, dates .0 .last, dates .1 .last);
-            wider = record { from = omega (arith, w .wider .from); to = omega (arith, w .wider .to) };
-            lines = λ j h k. one j (decLt j i) k h .0;
-            earlies = λ j h k. one j (decLt j i) k h .1;
-          }
-        where
-          dates : IsDate (getD line i 0) × IsDate (getD early i 0)
-          dates = (d .lines i (omega arith), d .earlies i (omega arith))
+          one : (j : ℕ) → j < i + 1 → 0 < getD table (j * width + at) 0 → Dec (j ≡ i) → InStretch (widened r (suc d)) (getD table (j * width + at) 0)
+          one j h k (yes s) = rw s record { since = omega arith; upTo = omega arith }
+          one j h k (no s) = let before = w .dates j (omega arith) k in record { since = omega (arith, before .since); upTo = omega (arith, before .upTo) }
 
-          wide : Stretch
-          wide = reachedBy r (suc n) (getD early i 0)
+  pub takes-end : {n : ℕ} → n ≤ i → Takes known table n width at r
+  takes-end h = record { bounded = w .bounded; from = w .from; to = w .to; dates = λ j l. w .dates j (omega arith) }
 
-          one : (j : ℕ) → Dec (j < i) → 0 < getD line j 0 → j < i + 1 → InStretch wide (getD line j 0) × InStretch wide (getD early j 0)
-          one j (yes l) k h = (
-            record { since = omega (arith, w .lines j l k .since); upTo = omega (arith, w .lines j l k .upTo) },
-            record { since = omega (arith, w .earlies j l k .since); upTo = omega (arith, w .earlies j l k .upTo) },
-          )
-          one j (no l) k h =
-              let same : j ≡ i = omega arith in
-              rw same (record { since = omega arith; upTo = omega arith }, record { since = omega arith; upTo = omega arith })
+-- ---- all dates
 
-  pub reaching-end : length line ≤ i → Within r line early
-  reaching-end h =
-      record { least = w .least; most = w .most; lines = λ j k. w .lines j (inside j k (decLt j i)) k; earlies = λ j k. w .earlies j (inside j k (decLt j i)) k }
-    where
-      inside : (j : ℕ) → 0 < getD line j 0 → Dec (j < i) → j < i
-      inside j k (yes l) = l
-      inside j k (no l) = let z : getD line j 0 ≡ 0 = List·getD-eq-default line 0 {n = j} (omega arith) in absurd (omega arith)
+module _
+    {schedule out : List ℕ} {none early planned begun all : Stretch} (d : Dated schedule out) (a : Takes none schedule (length out / 5) 13 2 early)
+    (b : Takes early schedule (length out / 5) 13 3 planned) (c : Takes planned out (length out / 5) 5 1 begun) (e : Takes begun out (length out / 5) 5 2 all)
+  where
+    pub all-reached : (i : ℕ) → i < length out / 5 → hasLine (rowOf 5 out i) ≡ true → Reaches all schedule i (rowOf 5 out i)
+    all-reached i h l =
+        let has = d .lined i h l in
+        let start = a .dates i h (omega (arith, d .earlyStarts i h .first)) in
+        let finish = b .dates i h (omega (arith, d .earlyFinishes i h .first)) in
+        let line = c .dates i h (has .0) in
+        record {
+          earlyStart = record { since = omega (arith, start .since, b .from, c .from, e .from); upTo = omega (arith, start .upTo, b .to, c .to, e .to) };
+          earlyFinish = record { since = omega (arith, finish .since, c .from, e .from); upTo = omega (arith, finish .upTo, c .to, e .to) };
+          start = subst (InStretch all) (sym (row-at 5 out i 1 (omega arith))) record { since = omega (arith, line .since, e .from); upTo = omega (arith, line .upTo, e .to) };
+          finish = subst (InStretch all) (sym (row-at 5 out i 2 (omega arith))) (e .dates i h (has .1));
+        }
+
+-- the early dates of the activities are dates
+pub early-dates : {schedule out : List ℕ} → Dated schedule out → AreDates schedule (length out / 5) 13 2 × AreDates schedule (length out / 5) 13 3
+early-dates d = (λ i h k. d .earlyStarts i h, λ i h k. d .earlyFinishes i h)

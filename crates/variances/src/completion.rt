@@ -1,132 +1,65 @@
-// The baseline's costs less the costs at completion.
-use activities::columns::fill_parents;
-use book::layout::Plan;
-use costs::figures::cost_columns;
-use fields::OptionalNumber;
+// The baseline's minutes less those of the schedule, and its costs less the costs at completion.
+use activities::schedule::WORKING;
+use baseline::lines::COST;
+use baseline::lines::MINUTES;
 use money::sums::saturating_add;
 use money::sums::saturating_sub;
-use rows::put_column;
-use tree::roll_up;
-ghost use Prim.Native.Nat.{_*_};
+use money::words::from_bits;
+use money::words::to_bits;
+ghost use Prim.Native.Nat.{_+_, _*_, _/_, _≤_};
 ghost use mathlib.Core.Path.{_≡_};
-ghost use mathlib.Core.List.{map};
-ghost use lib.IntN.{pos};
-ghost use lib.ListN.{length};
-ghost use Rattle.format.specs.Verdict.{content};
-ghost use Rattle.book.specs.Plan.{IsPlanOf};
-ghost use Rattle.model.specs.Lists.{span};
-ghost use Rattle.model.specs.Tree as definition;
-ghost use Rattle.model.specs.Costs.{costOf};
-ghost use Rattle.rows.specs.Rows.{placed};
-ghost use Rattle.earned.specs.Listed as listed;
-ghost use Rattle.variances.specs.Columns.{lastly, costBy, costIn, columnOf};
+ghost use lib.ListN.{length, getD};
+ghost use Rattle.format.specs.InRange.{IsMinutes};
+ghost use Rattle.money.specs.Words.{bits};
+ghost use Rattle.activities.specs.Schedule.{entryAt};
+ghost use Rattle.variances.specs.Changed.{RowChanged};
+ghost use Rattle.variances.specs.Days.{Tables, allRows};
+ghost use Rattle.variances.specs.Completion.{durationBy, costBy, settled, Timed};
 
-// What the activities cost so far, and what they will, with all below them.
-fn roll_costs(
-    book: &[u8],
-    date: OptionalNumber,
-    plan: Plan,
-    parents: &mut [u64],
-    own: &mut [i64],
-    spent: &mut [i64],
-    left: &mut [i64],
-)
-    requires { ⌜ IsPlanOf (now book) date plan ⌝ }
-    requires { ⌜ length (now parents) ≡ plan .activities .count ⌝ }
-    requires { ⌜ (length (now own) ≡ plan .activities .count) × (length (now spent) ≡ plan .activities .count) × (length (now left) ≡ plan .activities .count) ⌝ }
-    ensures spent { λ r. ⌜ now (spent .exit) ≡ map (λ i. costOf (content (now (book .entry))) i .actual) (definition.indices (definition.parents (content (now (book .entry))))) ⌝ }
-    ensures left { λ r. ⌜ now (left .exit) ≡ map (λ i. costOf (content (now (book .entry))) i .remaining) (definition.indices (definition.parents (content (now (book .entry))))) ⌝ }
+// Minutes less others, in two's complement.
+fn duration(minutes: u64, working: u64) -> u64
+    requires { ⌜ IsMinutes minutes × IsMinutes working ⌝ }
+    ensures { λ r. ⌜ r ≡ bits (durationBy minutes working) ⌝ }
 {
-    let activities = plan.activities;
-    let calendars = plan.calendars;
-    fill_parents(book, activities, calendars.count, parents);
-    cost_columns(book, date, plan, spent, left, own);
-    roll_up(parents, left, spent);
-    roll_up(parents, own, left);
+    to_bits((minutes as i64) - (working as i64))
 }
 
-// Of one activity; 0 where its line has no start, which is where it has no line.
-fn cost(start: u64, frozen: i64, spent: i64, left: i64) -> i64
-    ensures { λ r. ⌜ r ≡ costBy start frozen spent left ⌝ }
+// A frozen cost less what is spent and left, all in two's complement.
+fn cost(frozen: u64, spent: i64, left: i64) -> u64
+    ensures { λ r. ⌜ r ≡ bits (costBy frozen spent left) ⌝ }
 {
-    if start == 0 {
-        return 0;
+    let completion = saturating_add(spent, left);
+    to_bits(saturating_sub(from_bits(frozen), completion))
+}
+
+// Of one activity, where it has a line.
+fn settle_row(i: usize, schedule: &[u64], costs: &[i64], out: &mut [u64])
+    requires { ⌜ (i * 13 + 13 ≤ length (now schedule)) × (i * 3 + 3 ≤ length (now costs)) × (i * 5 + 5 ≤ length (now out)) ⌝ }
+    requires { ⌜ IsMinutes (getD (now out) (i * 5 + 3) 0) × IsMinutes (entryAt (now schedule) i 9) ⌝ }
+    ensures { λ r. ⌜ RowChanged 5 i (settled (now (schedule .entry)) (now (costs .entry)) i) (now (out .entry)) (now (out .exit)) ⌝ }
+{
+    let at = i * 5;
+    if out[at] == 0 {
+        return;
     }
-    saturating_sub(frozen, saturating_add(spent, left))
+    let spent = costs[i * 3 + 1];
+    let left = costs[i * 3 + 2];
+    let minutes = duration(out[at + MINUTES], schedule[i * 13 + WORKING]);
+    let amount = cost(out[at + COST], spent, left);
+    out[at + MINUTES] = minutes;
+    out[at + COST] = amount;
 }
 
-// Of each activity, from columns.
-fn vary_costs(starts: &[u64], frozen: &[i64], spent: &[i64], left: &[i64], out: &mut [i64])
-    requires { ⌜ (length (now starts) ≡ length (now out)) × (length (now frozen) ≡ length (now out)) ⌝ }
-    requires { ⌜ (length (now spent) ≡ length (now out)) × (length (now left) ≡ length (now out)) ⌝ }
-    ensures { λ r. ⌜ now (out .exit) ≡ map (costIn (now (starts .entry)) (now (frozen .entry)) (now (spent .entry)) (now (left .entry))) (span 0 (length (now (out .entry)))) ⌝ }
+// Of all activities, from the schedule and their costs with those below them.
+pub fn settle_rows(schedule: &[u64], costs: &[i64], out: &mut [u64])
+    requires { ⌜ Tables (now schedule) (now out) × (length (now costs) ≡ length (now out) / 5 * 3) ⌝ }
+    requires { ⌜ Timed (now schedule) (now out) ⌝ }
+    ensures { λ r. ⌜ now (out .exit) ≡ allRows (settled (now (schedule .entry)) (now (costs .entry))) (now (out .entry)) ⌝ }
 {
+    let n = out.len() / 5;
     let mut i = 0;
-    while i < starts.len() {
-        let line = frozen[i];
-        let actual = spent[i];
-        let remaining = left[i];
-        out[i] = cost(starts[i], line, actual, remaining);
+    while i < n {
+        settle_row(i, schedule, costs, out);
         i += 1;
     }
-}
-
-// The costs at completion, then the variances, into the rows.
-fn vary_completion(
-    book: &[u8],
-    date: OptionalNumber,
-    plan: Plan,
-    starts: &[u64],
-    frozen: &[i64],
-    parents: &mut [u64],
-    own: &mut [i64],
-    spent: &mut [i64],
-    left: &mut [i64],
-    out: &mut [u64],
-)
-    requires { ⌜ IsPlanOf (now book) date plan ⌝ }
-    requires { ⌜ now starts ≡ map (lastly listed.startOf 0 (content (now book))) (span 0 (plan .activities .count)) ⌝ }
-    requires { ⌜ now frozen ≡ map (lastly listed.costIn (pos 0) (content (now book))) (span 0 (plan .activities .count)) ⌝ }
-    requires { ⌜ length (now parents) ≡ plan .activities .count ⌝ }
-    requires { ⌜ (length (now own) ≡ plan .activities .count) × (length (now spent) ≡ plan .activities .count) × (length (now left) ≡ plan .activities .count) ⌝ }
-    requires { ⌜ length (now out) ≡ plan .activities .count * 5 ⌝ }
-    ensures { λ r. ⌜ now (out .exit) ≡ placed 5 4 (columnOf (λ v. v .cost) (content (now (book .entry)))) (now (out .entry)) ⌝ }
-{
-    roll_costs(book, date, plan, parents, own, spent, left);
-    vary_costs(starts, frozen, spent, left, own);
-    put_column(own, 5, 4, out);
-}
-
-// The variances of the costs as number 4 of the rows, from columns of the lines' starts and costs.
-pub fn put_costs(
-    book: &[u8],
-    date: OptionalNumber,
-    plan: Plan,
-    starts: &[u64],
-    frozen: &[i64],
-    out: &mut [u64],
-)
-    requires { ⌜ IsPlanOf (now book) date plan ⌝ }
-    requires { ⌜ now starts ≡ map (lastly listed.startOf 0 (content (now book))) (span 0 (plan .activities .count)) ⌝ }
-    requires { ⌜ now frozen ≡ map (lastly listed.costIn (pos 0) (content (now book))) (span 0 (plan .activities .count)) ⌝ }
-    requires { ⌜ length (now out) ≡ plan .activities .count * 5 ⌝ }
-    ensures { λ r. ⌜ now (out .exit) ≡ placed 5 4 (columnOf (λ v. v .cost) (content (now (book .entry)))) (now (out .entry)) ⌝ }
-{
-    let count = starts.len();
-    let mut parents = [0u64; 500];
-    let mut own = [0i64; 500];
-    let mut spent = [0i64; 500];
-    let mut left = [0i64; 500];
-    vary_completion(
-        book,
-        date,
-        plan,
-        starts,
-        frozen,
-        &mut parents[..count],
-        &mut own[..count],
-        &mut spent[..count],
-        &mut left[..count],
-        out,
-    );
 }

@@ -1,37 +1,39 @@
--- `small_rows` meets its contract: the tables are empty, and large enough.
+-- `small_rows` meets its contract: the budgets are laid, and their running total is written.
 use Prim.Native.Nat.{ℕ}
-use mathlib.Core.Path.{sym}
-use lib.IntN.{ℤ, pos}
+use mathlib.Core.Path.{sym, _∙_}
+use native.Mathlib.Omega.{arith}
 use lib.ListN.{length-replicate}
-use Rattle.spending.proofs.Pointing.{tables-empty}
+use Rattle.curve.proofs.Curving.{asked-reach, asked-rows}
+use borrow.Author.Needs.{needs}
 use Rattle.curve.proofs.small_rows.Statement.{statement}
 use Rattle.curve.proofs.small_rows.Tie as tie
 
-slice-aggregate-rows-in : tie.Need-slice-aggregate-rows-in
-slice-aggregate-rows-in c = sym (length-replicate {A = ℕ} 4096 0)
+days-long : tie.Need-slice-aggregate-lay-plan
+days-long c = sym (length-replicate {A = ℕ} 4096 0)
 
-slice-aggregate-rows-in-2 : tie.Need-slice-aggregate-rows-in-2
-slice-aggregate-rows-in-2 c = sym (length-replicate {A = ℤ} 1024 (pos 0))
+table-long : tie.Need-slice-aggregate-lay-plan-2
+table-long c = sym (length-replicate {A = ℕ} 2048 0)
 
-slice-aggregate-rows-in-3 : tie.Need-slice-aggregate-rows-in-3
-slice-aggregate-rows-in-3 c = sym (length-replicate {A = ℕ} 1024 0)
+lay-plan-requires : tie.Need-lay-plan-requires
+lay-plan-requires c κs = let s = c .before .before .before .before .before .pre in (s .0, rw (length-replicate {A = ℕ} 4096 0) (s .1 .days))
 
-rows-in-requires : tie.Need-rows-in-requires
-rows-in-requires c κs = let s = c .before .before .before .before .before .before .before .before .before .before in let known = s .args .known in (s .pre .0, tables-empty known (s .args .plan .calendars .count) (known .from) (known .to) 4096 1024 (s .pre .1 .0) (s .pre .1 .1))
+laid-long : tie.Need-slice-aggregate-write-totals
+laid-long c = sym (c .before .before .before .lay-plan .ensures .long ∙ length-replicate {A = ℕ} 2048 0)
+
+write-totals-requires : tie.Need-write-totals-requires
+write-totals-requires c κs =
+    let t = c .before .before .before .before in
+    let s = t .before .before .before .before .before .before .pre in
+    asked-reach (s .0) 2048 (t .lay-plan .ensures .long ∙ length-replicate {A = ℕ} 2048 0) (omega (arith, s .1 .dates))
 
 same-length : tie.Need-same-length
-same-length c = c .before .before .before .before .before .rows-in .kept .1 .1 .1 .1 .1 .1 .1 .1 .1 .1 .1 .1 .1 .0
+same-length c = search needs
 
 returns : tie.Need-returns
-returns c = c .before .before .before .before .before .rows-in .ensures
+returns c =
+    let t = c .before .before .before .before .before .before .before .before in
+    let s = t .before .before .before .before .before .before .pre in
+    asked-rows (s .0) 2048 (t .lay-plan .ensures) (omega (arith, s .1 .dates)) (c .before .before .before .write-totals .ensures)
 
 pub small-rows-spec : {M : Type 1} → statement M
-small-rows-spec =
-    tie.close
-    (tie.spec
-    slice-aggregate-rows-in
-    slice-aggregate-rows-in-2
-    slice-aggregate-rows-in-3
-    rows-in-requires
-    same-length
-    returns)
+small-rows-spec = tie.close (tie.spec days-long table-long lay-plan-requires laid-long write-totals-requires same-length returns)

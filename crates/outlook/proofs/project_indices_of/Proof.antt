@@ -1,71 +1,24 @@
--- `project_indices_of` meets its contract: a date outside the range, too short a slice, or the row.
+-- `project_indices_of` meets its contract: the row of these figures under the book's forecast.
 use borrow.Author.Needs.{needs}
-use Prim.Native.Nat.{_≤_}
-use native.Mathlib.Omega.{arith}
-use mathlib.Core.Path.{ap₂, sym, _∙_}
-use lib.ListN.{length}
-use lib.Seq.{length-take-le}
-use Rattle.format.specs.Verdict.{content}
-use Rattle.forecast.specs.Rows.{forecastRow}
 use Rattle.answers.specs.Rows.{projectIndicesRows}
-use Rattle.answers.proofs.Replies.{date-tested, date-refused}
-use Rattle.answers.proofs.Sized.{no-room, in-front}
-use Rattle.outlook.proofs.Outlook.{project-sized, project-row}
+use Rattle.outlook.proofs.Rowed.{same-row}
 use Rattle.outlook.proofs.project_indices_of.Statement.{statement}
 use Rattle.outlook.proofs.project_indices_of.Tie as tie
-
-is-date-requires : tie.Need-is-date-requires
-is-date-requires c κs = search needs
-
-returns : tie.Need-returns
-returns c =
-    date-refused _ (c .before .before .before .before .args .at) (c .before .is-date .ensures) _ _ (c .if1 .taken)
-
-returns-2 : tie.Need-returns-2
-returns-2 c =
-    let s = c .before .before .before .before .before in
-    let at = s .args .at in
-    let book = content (s .args .book .now) in
-    let ok = date-tested book at (c .before .before .is-date .ensures) (c .before .if1 .left) in
-    no-room (projectIndicesRows at) book (s .args .out .now) ok (project-sized at book) (omega (arith, c .if2 .taken))
 
 project-earned-requires : tie.Need-project-earned-requires
 project-earned-requires c κs = search needs
 
-slice-relend-prefix-put-forecast : tie.Need-slice-relend-prefix-put-forecast
-slice-relend-prefix-put-forecast c = search needs
-
-slice-aggregate-put-forecast : tie.Need-slice-aggregate-put-forecast
-slice-aggregate-put-forecast c =
-    let out = c .before .before .before .before .before .before .before .args .out .now in
-    let room : 9 ≤ length out = omega (arith, c .before .before .if2 .left) in
-    sym (length-take-le 9 out room)
-
-put-forecast-requires : tie.Need-put-forecast-requires
-put-forecast-requires c κs = sym (slice-aggregate-put-forecast c)
+give-requires : tie.Need-give-requires
+give-requires c κs = search needs
 
 same-length : tie.Need-same-length
 same-length c = search needs
 
-returns-3 : tie.Need-returns-3
-returns-3 c =
-    let s = c .before .before .before .before .before .before .before .before .before .before in
-    let at = s .args .at in
-    let book = content (s .args .book .now) in
-    let ok = date-tested book at (c .before .before .before .before .before .before .before .is-date .ensures) (c .before .before .before .before .before .before .if1 .left) in
-    in-front (projectIndicesRows at) book (s .args .out .now) ok (project-sized at book) (omega (arith, c .before .before .before .before .before .if2 .left)) _
-    (c .before .before .put-forecast .ensures ∙ ap₂ forecastRow (sym (s .pre .forecast)) (c .before .before .before .before .project-earned .ensures) ∙ sym (project-row at book))
+returns : tie.Need-returns
+unfolding projectIndicesRows
+returns c =
+    let called = c .before .before .before .before in
+    same-row (called .before .before .before .pre .forecast) (called .project-earned .ensures) (c .before .before .give .ensures)
 
 pub project-indices-of-spec : {M : Type 1} → statement M
-project-indices-of-spec =
-    tie.close
-    (tie.spec
-    is-date-requires
-    returns
-    returns-2
-    project-earned-requires
-    slice-relend-prefix-put-forecast
-    slice-aggregate-put-forecast
-    put-forecast-requires
-    same-length
-    returns-3)
+project-indices-of-spec = tie.close (tie.spec project-earned-requires give-requires same-length returns)

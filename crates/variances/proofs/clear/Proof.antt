@@ -1,10 +1,10 @@
 -- `clear` meets its contract: one number a turn.
-use Prim.Native.Nat.{ℕ, _-_}
+use borrow.Author.Needs.{needs}
 use native.Mathlib.Omega.{arith}
+use Prim.Native.Nat.{ℕ, _-_}
 use mathlib.Core.Path.{refl}
 use lib.ListN.{length}
-use borrow.Author.Needs.{needs}
-use Rattle.earned.proofs.Entries.{Entered, entered-none, entered-more, entered-clear}
+use Rattle.baseline.proofs.Entries.{Entered, entered-none, entered-more, entered-clear}
 use Rattle.variances.proofs.clear.Statement.{statement}
 use Rattle.variances.proofs.clear.Tie as tie
 
@@ -16,18 +16,6 @@ abbrev μ-loop : tie.MeasureT-loop
 
 loop-holds : tie.Need-loop-holds Inv-loop μ-loop
 loop-holds c = entered-none _ _ _
-
-mul-out : tie.Need-mul-out Inv-loop μ-loop
-mul-out c = search needs
-
-slice-write-out : tie.Need-slice-write-out Inv-loop μ-loop
-slice-write-out c = search needs
-
-add-i : tie.Need-add-i Inv-loop μ-loop
-add-i c = search needs
-
-loop-less : tie.Need-loop-less Inv-loop μ-loop
-loop-less c = search needs
 
 loop-again : tie.Need-loop-again Inv-loop μ-loop
 loop-again c = let inv = c .before .loop .inv in entered-more inv (omega (arith, c .loop-test .taken, inv .long)) refl refl
@@ -45,10 +33,10 @@ clear-spec =
     Inv-loop
     μ-loop
     loop-holds
-    mul-out
-    slice-write-out
-    add-i
-    loop-less
+    (λ c. search needs)
+    (λ c. search needs)
+    (λ c. search needs)
+    (λ c. search needs)
     loop-again
     same-length
     returns)

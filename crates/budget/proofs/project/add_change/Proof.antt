@@ -13,15 +13,6 @@ use borrow.Author.Needs.{needs}
 use Rattle.budget.proofs.project.add_change.Statement.{statement}
 use Rattle.budget.proofs.project.add_change.Tie as tie
 
-is-project-requires : tie.Need-is-project-requires
-is-project-requires c κs = search needs
-
-same-status-requires : tie.Need-same-status-requires
-same-status-requires c κs = search needs
-
-saturating-add-requires : tie.Need-saturating-add-requires
-saturating-add-requires c κs = search needs
-
 -- what the two tests choose
 chosen : {own status a b : Bool} (z w : ℤ) → own ≡ a → status ≡ b → cond (a && b) z w ≡ cond (own && status) z w
 chosen z w e g = sym (ap₂ (λ (a b : Bool). cond (a && b) z w) e g)
@@ -35,7 +26,7 @@ returns c =
     back w64 (c .saturating-add .result) (c .saturating-add .ok)
     ∙ c .saturating-add .ensures
     ∙ ap₂ saturatingAdd (toZ-ofZ (s .fits .sum)) (back w64 amount (c .before .struct-told .given .1 .0 .1))
-    ∙ chosen (saturatingAdd sum amount) sum (sym (c .before .before .before .before .before .is-project .ensures) ∙ c .before .before .before .before .if1 .taken) (sym (c .before .before .before .same-status .ensures) ∙ c .before .before .if2 .taken)
+    ∙ chosen (saturatingAdd sum amount) sum (sym (c .before .before .before .before .before .is-project .ensures) ∙ c .before .before .before .before .if1 .taken) (sym (c .before .before .before .is-approved .ensures) ∙ c .before .before .if2 .taken)
 
 returns-2 : tie.Need-returns-2
 unfolding budgetChangeOf
@@ -43,7 +34,7 @@ returns-2 c =
     let s = c .before .before .before .before in
     let sum = s .args .sum in
     toZ-ofZ (s .fits .sum)
-    ∙ chosen (saturatingAdd sum (s .args .change .amount)) sum (sym (c .before .before .before .is-project .ensures) ∙ c .before .before .if1 .taken) (sym (c .before .same-status .ensures) ∙ c .if2 .left)
+    ∙ chosen (saturatingAdd sum (s .args .change .amount)) sum (sym (c .before .before .before .is-project .ensures) ∙ c .before .before .if1 .taken) (sym (c .before .is-approved .ensures) ∙ c .if2 .left)
 
 returns-3 : tie.Need-returns-3
 unfolding budgetChangeOf
@@ -57,9 +48,9 @@ pub add-change-spec : {M : Type 1} → statement M
 add-change-spec =
     tie.close
     (tie.spec
-    is-project-requires
-    same-status-requires
-    saturating-add-requires
+    (λ c κs. search needs)
+    (λ c κs. search needs)
+    (λ c κs. search needs)
     returns
     returns-2
     returns-3)

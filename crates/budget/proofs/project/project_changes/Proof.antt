@@ -12,9 +12,9 @@ use Rattle.format.specs.Codec.{stay}
 use Rattle.format.specs.Format.{budgetChange}
 use Rattle.format.specs.Verdict.{content}
 use Rattle.model.specs.Budgets.{isChange, changes}
-use Rattle.costs.proofs.Charged.{saturated-kept}
-use Rattle.budget.specs.Owners.{addedTo}
-use Rattle.budget.proofs.Reading.{Reading, reading-none, reading-more, reading-next, reading-end, Folded, folded-none, folded-more, folded-end}
+use Rattle.budget.specs.Project.{addedTo}
+use Rattle.budget.proofs.Sought.{saturated-kept}
+use Rattle.ledger.proofs.Reading.{Reading, reading-none, reading-more, reading-next, reading-end, Folded, folded-none, folded-more, folded-end}
 use borrow.Author.Needs.{needs}
 use Rattle.budget.proofs.project.project_changes.Statement.{statement}
 use Rattle.budget.proofs.project.project_changes.Tie as tie
@@ -31,18 +31,6 @@ loop-holds : tie.Need-loop-holds Inv-loop μ-loop
 loop-holds c =
     let s = c .before in
     (reading-none (λ (x : Unit {0}). budgetChange (s .args .activities)) stay _ _ tt (s .args .list) (s .pre .listed), folded-none _ _ _)
-
-read-budget-change-requires : tie.Need-read-budget-change-requires Inv-loop μ-loop
-read-budget-change-requires c κs = search needs
-
-add-change-requires : tie.Need-add-change-requires Inv-loop μ-loop
-add-change-requires c κs = search needs
-
-add-i : tie.Need-add-i Inv-loop μ-loop
-add-i c = search needs
-
-loop-less : tie.Need-loop-less Inv-loop μ-loop
-loop-less c = search needs
 
 loop-again : tie.Need-loop-again Inv-loop μ-loop
 loop-again c =
@@ -68,9 +56,9 @@ project-changes-spec =
     Inv-loop
     μ-loop
     loop-holds
-    read-budget-change-requires
-    add-change-requires
-    add-i
-    loop-less
+    (λ c κs. search needs)
+    (λ c κs. search needs)
+    (λ c. search needs)
+    (λ c. search needs)
     loop-again
     returns)

@@ -1,4 +1,4 @@
--- `project_current` meets its contract: the two, added.
+-- `project_current` meets its contract: its own budget, and the approved changes.
 use mathlib.Core.Path.{refl, ap₂, _∙_}
 use mir.Syntax.{w64}
 use Rattle.integer.specs.Linear.{back}
@@ -9,23 +9,17 @@ use borrow.Author.Needs.{needs}
 use Rattle.budget.proofs.project.project_current.Statement.{statement}
 use Rattle.budget.proofs.project.project_current.Tie as tie
 
-slice-aggregate-project-original : tie.Need-slice-aggregate-project-original
-slice-aggregate-project-original c = search needs
-
 project-original-requires : tie.Need-project-original-requires
-project-original-requires c κs = let s = c .before .before .before .before .before in (plan-budgets (s .pre .0) (s .pre .1), refl)
+project-original-requires c κs = let s = c .before .before in (plan-budgets (s .pre .0) (s .pre .1), refl)
 
 project-changes-requires : tie.Need-project-changes-requires
-project-changes-requires c κs = let s = c .before .before .before .before .before .before .before in plan-log (s .pre .0) (s .pre .1)
-
-saturating-add-requires : tie.Need-saturating-add-requires
-saturating-add-requires c κs = search needs
+project-changes-requires c κs = let s = c .before .before .before in plan-log (s .pre .0) (s .pre .1)
 
 returns : tie.Need-returns
 unfolding currentOf
 returns c =
-    let original = c .before .before .before .project-original in
     let changed = c .before .project-changes in
+    let original = c .before .before .project-original in
     back w64 (c .saturating-add .result) (c .saturating-add .ok)
     ∙ c .saturating-add .ensures
     ∙ ap₂ saturatingAdd (back w64 (original .result) (original .ok) ∙ original .ensures) (back w64 (changed .result) (changed .ok) ∙ changed .ensures)
@@ -33,9 +27,4 @@ returns c =
 pub project-current-spec : {M : Type 1} → statement M
 project-current-spec =
     tie.close
-    (tie.spec
-    slice-aggregate-project-original
-    project-original-requires
-    project-changes-requires
-    saturating-add-requires
-    returns)
+    (tie.spec project-original-requires project-changes-requires (λ c κs. search needs) returns)

@@ -1,79 +1,92 @@
 -- `run_up` meets its contract: the loop keeps that with the dates that are left made totals, all are.
-use Prim.Native.Nat.{_+_, _-_}
+use Prim.Native.Nat.{_+_, _*_, _-_}
 use mathlib.Core.Path.{sym, ap, _∙_}
 use native.Mathlib.Omega.{arith}
-use lib.IntN.{ℤ, pos, _+ℤ_}
-use lib.ListN.{getD}
+use lib.IntN.{ℤ, _+ℤ_}
 use mir.Syntax.{w64}
 use mir.Val.{toZ}
-use Rattle.integer.specs.Linear.{back}
 use Rattle.integer.specs.Clamp.{clamp}
-use Rattle.curve.proofs.Running.{Totalling, totalling-none, totalling-skip, totalling-more, totalling-long, totalling-end}
+use Rattle.integer.specs.Linear.{back}
+use Rattle.curve.proofs.Running.{Totalling, totalling-none, totalling-past, totalling-more, totalling-long, totalling-end}
 use borrow.Author.Needs.{needs}
 use Rattle.curve.proofs.totals.run_up.Statement.{statement}
 use Rattle.curve.proofs.totals.run_up.Tie as tie
 
 abbrev Inv-loop : tie.InvT-loop
-Inv-loop lo hi marks sums₀ total₀ date₀ sums total date = Totalling lo hi marks sums₀ date (toZ w64 total) sums
+Inv-loop base first to table₀ total₀ date₀ table total date = Totalling base first to table₀ date (toZ w64 total) table
 
 abbrev μ-loop : tie.MeasureT-loop
-μ-loop lo hi marks sums₀ total₀ date₀ sums total date = hi + 1 - date
+μ-loop base first to table₀ total₀ date₀ table total date = to + 1 - date
 
 loop-holds : tie.Need-loop-holds Inv-loop μ-loop
 loop-holds c = totalling-none _ _ _ _
 
-is-working-requires : tie.Need-is-working-requires Inv-loop μ-loop
-is-working-requires c κs = let s = c .before .before .before in (c .before .loop .inv .begun, omega (arith, c .before .loop .inv .begun, c .loop-test .taken, s .pre .0 .reach))
+is-marked-requires : tie.Need-is-marked-requires Inv-loop μ-loop
+is-marked-requires c κs =
+    let l = c .before .before .loop in
+    omega (arith, c .before .before .before .before .pre .start, c .before .before .before .before .pre .reach, l .inv .begun, totalling-long _ _ _ (l .inv))
 
-sub-i : tie.Need-sub-i Inv-loop μ-loop
-sub-i c = c .before .before .before .loop .inv .begun
+sub-at : tie.Need-sub-at Inv-loop μ-loop
+sub-at c = omega (arith, c .before .before .before .before .before .before .pre .start, c .before .before .before .before .loop .inv .begun)
 
-mul-sum : tie.Need-mul-sum Inv-loop μ-loop
-mul-sum c = search needs
+mul-at : tie.Need-mul-at Inv-loop μ-loop
+mul-at c = omega (arith, c .before .before .before .before .before .before .pre .latest)
 
-slice-copy-out-sum : tie.Need-slice-copy-out-sum Inv-loop μ-loop
-slice-copy-out-sum c =
-    let l = c .before .before .before .loop in
-    omega (arith, l .inv .begun, totalling-long _ _ _ (l .inv), c .before .before .loop-test .taken, c .before .before .before .before .before .pre .1)
+add-at : tie.Need-add-at Inv-loop μ-loop
+add-at c = omega (arith, c .before .before .before .before .before .before .pre .latest)
+
+mul-from-bits : tie.Need-mul-from-bits Inv-loop μ-loop
+mul-from-bits c = search needs
+
+slice-read-from-bits : tie.Need-slice-read-from-bits Inv-loop μ-loop
+slice-read-from-bits c =
+    let l = c .before .before .before .before .before .loop in
+    omega (arith, c .before .before .before .before .before .before .before .pre .start, c .before .before .before .before .before .before .before .pre .reach, l .inv .begun, totalling-long _ _ _ (l .inv))
+
+from-bits-requires : tie.Need-from-bits-requires Inv-loop μ-loop
+from-bits-requires c κs = search needs
 
 saturating-add-requires : tie.Need-saturating-add-requires Inv-loop μ-loop
 saturating-add-requires c κs = search needs
 
-mul-total : tie.Need-mul-total Inv-loop μ-loop
-mul-total c = search needs
+to-bits-requires : tie.Need-to-bits-requires Inv-loop μ-loop
+to-bits-requires c κs = search needs
 
-slice-set-from-total : tie.Need-slice-set-from-total Inv-loop μ-loop
-slice-set-from-total c = slice-copy-out-sum (c .before .before)
+mul-table : tie.Need-mul-table Inv-loop μ-loop
+mul-table c = search needs
+
+slice-write-table : tie.Need-slice-write-table Inv-loop μ-loop
+slice-write-table c = slice-read-from-bits (c .before .before .before)
 
 add-date : tie.Need-add-date Inv-loop μ-loop
-add-date c = omega (arith, c .before .before .before .before .before .before .before .pre .0 .latest, c .before .before .before .before .loop-test .taken)
+add-date c = let t = c .before .before .before .before .before .before .before .before in omega (arith, t .before .before .pre .latest)
 
 loop-less : tie.Need-loop-less Inv-loop μ-loop
-loop-less c = omega (arith, c .before .before .before .before .loop-test .taken)
+loop-less c = omega arith
 
 loop-again : tie.Need-loop-again Inv-loop μ-loop
 loop-again c =
-    let s = c .before .before .before .before .before .before .before in
-    let l = c .before .before .before .before .before .loop in
-    totalling-more _ _ _ (l .inv) (c .before .before .before .before .loop-test .taken) (sym (c .before .before .before .is-working .ensures) ∙ c .before .before .if1 .taken) _
-    (back w64 (c .saturating-add .result) (c .saturating-add .ok)
-    ∙ c .saturating-add .ensures
-    ∙ ap (λ (z : ℤ). clamp w64 (toZ w64 (l .total) +ℤ z)) (back w64 (getD (l .sums) (l .date - s .args .lo) (pos 0)) (c .before .sum .given)))
+    let l = c .before .before .before .before .before .before .before .before .loop in
+    let old = c .before .before .from-bits in
+    let new = c .before .saturating-add in
+    totalling-more _ _ _ (l .inv) (c .before .before .before .before .before .before .before .loop-test .taken) (sym (c .before .before .before .before .before .is-marked .ensures) ∙ c .before .before .before .before .if1 .taken)
+    (back w64 (new .result) (new .ok) ∙ new .ensures ∙ ap (λ (z : ℤ). clamp w64 (toZ w64 (l .total) +ℤ z)) (back w64 (old .result) (old .ok) ∙ old .ensures))
+    (c .to-bits .ensures)
 
 add-date-2 : tie.Need-add-date-2 Inv-loop μ-loop
-add-date-2 c = omega (arith, c .before .before .before .before .before .pre .0 .latest, c .before .before .loop-test .taken)
+add-date-2 c = omega (arith, c .before .before .before .before .before .before .pre .latest)
 
 loop-less-2 : tie.Need-loop-less-2 Inv-loop μ-loop
-loop-less-2 c = omega (arith, c .before .before .loop-test .taken)
+loop-less-2 c = omega arith
 
 loop-again-2 : tie.Need-loop-again-2 Inv-loop μ-loop
-loop-again-2 c = totalling-skip _ _ _ (c .before .before .before .loop .inv) (c .before .before .loop-test .taken) (sym (c .before .is-working .ensures) ∙ c .if1 .left)
+loop-again-2 c = totalling-past _ _ _ (c .before .before .before .before .loop .inv) (c .before .before .before .loop-test .taken) (sym (c .before .is-marked .ensures) ∙ c .if1 .left)
 
 same-length : tie.Need-same-length Inv-loop μ-loop
 same-length c = totalling-long _ _ _ (c .before .loop .inv)
 
 returns : tie.Need-returns Inv-loop μ-loop
-returns c = totalling-end _ _ _ (c .before .loop .inv) (c .loop-test .left) (c .before .before .before .pre .1)
+returns c = totalling-end _ _ _ (c .before .loop .inv) (c .loop-test .left) (c .before .before .before .pre)
 
 pub run-up-spec : {M : Type 1} → statement M
 run-up-spec =
@@ -82,13 +95,17 @@ run-up-spec =
     Inv-loop
     μ-loop
     loop-holds
-    is-working-requires
-    sub-i
-    mul-sum
-    slice-copy-out-sum
+    is-marked-requires
+    sub-at
+    mul-at
+    add-at
+    mul-from-bits
+    slice-read-from-bits
+    from-bits-requires
     saturating-add-requires
-    mul-total
-    slice-set-from-total
+    to-bits-requires
+    mul-table
+    slice-write-table
     add-date
     loop-less
     loop-again

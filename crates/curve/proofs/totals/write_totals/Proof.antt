@@ -1,43 +1,21 @@
 -- `write_totals` meets its contract: the totals, then their points from a date on.
-use mathlib.Core.Path.{ap, _∙_}
-use mathlib.Core.List.{List}
+use mathlib.Core.Path.{_≡_, ap, _∙_, subst}
+use mathlib.Core.List.{List, map}
+use native.Mathlib.Omega.{arith}
 use lib.ListN.{length}
-use Rattle.model.specs.Amounts.{Dated}
-use Rattle.spending.specs.Rows.{pointRows, written}
-use Rattle.curve.proofs.Running.{totals-from}
+use Rattle.model.specs.Lists.{keep}
+use Rattle.model.specs.Amounts.{Dated, isBetween}
+use Rattle.bydate.proofs.Writing.{puts-same}
+use Rattle.curve.proofs.Running.{points-from}
 use borrow.Author.Needs.{needs}
 use Rattle.curve.proofs.totals.write_totals.Statement.{statement}
 use Rattle.curve.proofs.totals.write_totals.Tie as tie
 
 run-up-requires : tie.Need-run-up-requires
-run-up-requires c κs = search needs
-
-sub-k : tie.Need-sub-k
-sub-k c = search needs
-
-mul-write-points : tie.Need-mul-write-points
-mul-write-points c = search needs
-
-sub-write-points : tie.Need-sub-write-points
-sub-write-points c = search needs
-
-part-write-points-start : tie.Need-part-write-points-start
-part-write-points-start c = search needs
-
-part-write-points-end : tie.Need-part-write-points-end
-part-write-points-end c = search needs
-
-sub-write-points-2 : tie.Need-sub-write-points-2
-sub-write-points-2 c = search needs
-
-part-write-points-start-2 : tie.Need-part-write-points-start-2
-part-write-points-start-2 c = search needs
-
-part-write-points-end-2 : tie.Need-part-write-points-end-2
-part-write-points-end-2 c = search needs
+run-up-requires c κs = let r = c .before .before .before .pre in record { start = omega arith; reach = r .reach; latest = r .latest }
 
 write-points-requires : tie.Need-write-points-requires
-write-points-requires c κs = search needs
+write-points-requires c κs = let r = c .before .before .before .before .before .before .before .before .pre in record { start = r .start; reach = omega (arith, r .reach, c .before .before .before .before .run-up .kept .1 .1 .1 .0); latest = r .latest }
 
 same-length : tie.Need-same-length
 same-length c = search needs
@@ -47,27 +25,11 @@ same-length-2 c = search needs
 
 returns : tie.Need-returns
 returns c =
-    let s = c .before .before .before .before .before .before .before .before .before .before .before .before in
-    let run = c .before .before .before .before .before .before .before .before .run-up in
-    let is = totals-from (s .args .lo) (s .args .from) (s .args .hi) (s .pre .1 .1 .0) (run .last .1 .1 .1 .0) (s .args .marks .now) (run .ensures) in (
-      c .before .before .write-points .ensures .0 ∙ ap (λ (l : List Dated). length (pointRows l)) is,
-      c .before .before .write-points .ensures .1 ∙ ap (λ (l : List Dated). written (pointRows l) (s .args .out .now)) is,
-    )
+    let t = c .before .before .before .before .before .before .before in
+    let s = t .before .before .before .before .args in
+    puts-same
+    (points-from (s .base) (s .base) (s .from) (s .to) (t .run-up .last .1 .1 .1 .0) (t .before .before .before .before .pre .start) ∙ ap (keep (isBetween (s .from) (s .to))) (t .run-up .ensures))
+    (c .before .before .write-points .ensures)
 
 pub write-totals-spec : {M : Type 1} → statement M
-write-totals-spec =
-    tie.close
-    (tie.spec
-    run-up-requires
-    sub-k
-    mul-write-points
-    sub-write-points
-    part-write-points-start
-    part-write-points-end
-    sub-write-points-2
-    part-write-points-start-2
-    part-write-points-end-2
-    write-points-requires
-    same-length
-    same-length-2
-    returns)
+write-totals-spec = tie.close (tie.spec run-up-requires write-points-requires same-length same-length-2 returns)

@@ -6,9 +6,10 @@ use lib.IntN.{ℤ}
 use mir.Facts.{toZ-ofZ}
 use Rattle.model.specs.Amounts.{Dated, on, spreadOver}
 use Rattle.model.specs.Costs.{accrued}
-use Rattle.spending.specs.Listed.{workedBetween, listedIn}
-use Rattle.spending.proofs.Laying.{laid-same}
-use Rattle.spending.proofs.Dealing.{listed-some, accrued-start, accrued-end}
+use Rattle.bydate.specs.Listed.{workedIn, listedIn}
+use Rattle.bydate.proofs.Laying.{laid-same}
+use Rattle.bydate.proofs.Dealing.{listed-some}
+use Rattle.spending.proofs.Pricing.{accrued-start, accrued-end}
 use borrow.Author.Needs.{needs}
 use Rattle.spending.proofs.expenses.lay_expense.Statement.{statement}
 use Rattle.spending.proofs.expenses.lay_expense.Tie as tie
@@ -34,49 +35,42 @@ lay-spread-requires c κs = search needs
 same-length : tie.Need-same-length
 same-length c = search needs
 
+returns : tie.Need-returns
+returns c =
+    let s = c .before .before .before .before .before .before .before .before .before in
+    let span = s .args .span in
+    let dates = listedIn (s .args .days .now) span in
+    laid-same
+    (ap₂ (λ (d : ℕ) (z : ℤ). on d z ∷ []) (c .before .before .before .before .first-listed .ensures) (toZ-ofZ (s .fits .amount))
+    ∙ accrued-start (s .args .amount) dates (listed-some (span .first) (workedIn (s .args .days .now) span (span .first) (span .last)))
+    ∙ sym (ap (accrued (s .args .amount) dates) (c .before .before .before .before .before .enum-told .given .1)))
+    (c .before .before .lay .ensures)
+
 same-length-2 : tie.Need-same-length-2
 same-length-2 c = search needs
 
-returns : tie.Need-returns
-returns c =
-    let s = c .before .before .before .before .before .before .before .before .before .before .before in
-    let dates = workedBetween (s .args .span .base) (s .args .days .now) (s .args .span .first) (s .args .span .last) in
-    let amount : ℕ → ℤ → List Dated = λ d z. on d z ∷ [] in
+returns-2 : tie.Need-returns-2
+returns-2 c =
+    let s = c .before .before .before .before .before .before .before .before .before in
+    let span = s .args .span in
+    let dates = listedIn (s .args .days .now) span in
     laid-same
-    (ap₂ amount (c .before .before .before .before .before .before .first-listed .ensures) (toZ-ofZ (s .fits .amount))
-    ∙ accrued-start (s .args .amount) (listedIn (s .args .days .now) (s .args .span)) (listed-some (s .args .span .first) dates)
-    ∙ sym (ap (accrued (s .args .amount) (listedIn (s .args .days .now) (s .args .span))) (c .before .before .before .before .before .before .before .enum-told .given .1)))
-    (c .before .before .before .lay .ensures)
+    (ap₂ (λ (d : ℕ) (z : ℤ). on d z ∷ []) (c .before .before .before .before .last-listed .ensures) (toZ-ofZ (s .fits .amount))
+    ∙ accrued-end (s .args .amount) dates (listed-some (span .first) (workedIn (s .args .days .now) span (span .first) (span .last)))
+    ∙ sym (ap (accrued (s .args .amount) dates) (c .before .before .before .before .before .enum-told2 .given .1)))
+    (c .before .before .lay2 .ensures)
 
 same-length-3 : tie.Need-same-length-3
 same-length-3 c = search needs
 
-same-length-4 : tie.Need-same-length-4
-same-length-4 c = search needs
-
-returns-2 : tie.Need-returns-2
-returns-2 c =
-    let s = c .before .before .before .before .before .before .before .before .before .before .before in
-    let dates = workedBetween (s .args .span .base) (s .args .days .now) (s .args .span .first) (s .args .span .last) in
-    let amount : ℕ → ℤ → List Dated = λ d z. on d z ∷ [] in
-    laid-same
-    (ap₂ amount (c .before .before .before .before .before .before .last-listed .ensures) (toZ-ofZ (s .fits .amount))
-    ∙ accrued-end (s .args .amount) (listedIn (s .args .days .now) (s .args .span)) (listed-some (s .args .span .first) dates)
-    ∙ sym (ap (accrued (s .args .amount) (listedIn (s .args .days .now) (s .args .span))) (c .before .before .before .before .before .before .before .enum-told2 .given .1)))
-    (c .before .before .before .lay2 .ensures)
-
-same-length-5 : tie.Need-same-length-5
-same-length-5 c = search needs
-
-same-length-6 : tie.Need-same-length-6
-same-length-6 c = search needs
-
 returns-3 : tie.Need-returns-3
 unfolding accrued
 returns-3 c =
-    let s = c .before .before .before .before .before .before .before .before .before .before in
+    let s = c .before .before .before .before .before .before .before .before in
     let dates = listedIn (s .args .days .now) (s .args .span) in
-    laid-same (ap (λ (z : ℤ). spreadOver z dates) (toZ-ofZ (s .fits .amount)) ∙ sym (ap (accrued (s .args .amount) dates) (c .before .before .before .before .before .before .enum-told3 .given .1))) (c .before .before .before .lay-spread .ensures)
+    laid-same
+    (ap (λ (z : ℤ). spreadOver z dates) (toZ-ofZ (s .fits .amount)) ∙ sym (ap (accrued (s .args .amount) dates) (c .before .before .before .before .enum-told3 .given .1)))
+    (c .before .before .lay-spread .ensures)
 
 pub lay-expense-spec : {M : Type 1} → statement M
 lay-expense-spec =
@@ -91,11 +85,8 @@ lay-expense-spec =
     enum-told-3
     lay-spread-requires
     same-length
-    same-length-2
     returns
-    same-length-3
-    same-length-4
+    same-length-2
     returns-2
-    same-length-5
-    same-length-6
+    same-length-3
     returns-3)

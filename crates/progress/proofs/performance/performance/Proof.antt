@@ -1,0 +1,32 @@
+-- `performance` meets its contract: the tables are as long as the book has activities.
+use Prim.Native.Nat.{_*_, _≤_}
+use native.Mathlib.Omega.{arith}
+use mathlib.Core.Path.{sym}
+use lib.Seq.{length-take-le}
+use borrow.Author.Needs.{needs}
+use Rattle.book.proofs.Plan.{activities-most}
+use Rattle.earned.proofs.Adding.{nothing-taken}
+use Rattle.progress.proofs.performance.performance.Statement.{statement}
+use Rattle.progress.proofs.performance.performance.Tie as tie
+
+most : (s : tie.Start) → s .args .opened .plan .activities .count ≤ 500
+most s = activities-most (s .pre .0 .plan)
+
+measure-by-requires : tie.Need-measure-by-requires
+measure-by-requires c κs =
+    let s = c .before .before .before in
+    let n = s .args .opened .plan .activities .count in
+    (s .pre .0, (s .pre .1, (length-take-le _ _ (omega (arith, most s)), length-take-le _ _ (omega (arith, most s)), nothing-taken (n * 2) 1000)))
+
+pub performance-spec : {M : Type 1} → statement M
+performance-spec =
+    tie.close
+    (tie.spec
+    (λ c. omega (arith, most (c .before)))
+    (λ c. omega (arith, most (c .before)))
+    (λ c. sym (length-take-le _ _ (omega (arith, most (c .before .before)))))
+    (λ c. omega (arith, most (c .before .before)))
+    (λ c. omega (arith, most (c .before .before)))
+    (λ c. sym (length-take-le _ _ (omega (arith, most (c .before .before .before)))))
+    measure-by-requires
+    (λ c. search needs))

@@ -1,0 +1,144 @@
+-- What is asked of an accepted book: its tables are as laying and writing need them.
+use Prim.Native.Nat.{ℕ, _+_, _*_, _-_, _≤_, _<_, min, max}
+use mathlib.Core.Path.{_≡_, refl, sym, ap, ap₂, _∙_, subst}
+use mathlib.Core.List.{List, [], map, flatMap}
+use native.Mathlib.Nat.{mul-le-mul-right}
+use native.Mathlib.Omega.{arith}
+use lib.IntN.{ℤ, pos}
+use lib.ListN.{length, getD, take, replicate, length-replicate}
+use Rattle.format.specs.Format as layout
+use Rattle.format.specs.InRange.{Every, CalendarInRange, InRange}
+use Rattle.format.specs.Verdict.{content}
+use Rattle.format.proofs.Theorems.{content-in-range}
+use Rattle.book.specs.Sections.{alikeIn}
+use Rattle.book.specs.Plan.{IsPlanOf}
+use Rattle.book.proofs.Plan.{calendars-most, resources-most, assignments-most, expenses-most}
+use Rattle.model.specs.Amounts.{Dated, pointsBetween}
+use Rattle.model.specs.Costs.{budgetByDay, spendingBetween}
+use Rattle.model.specs.declared.Way.the-variants.{Planned}
+use Rattle.model.proofs.Points.{points-none}
+use Rattle.calendar.specs.Tables.{ShowsAll}
+use Rattle.fields.specs.declared.OptionalNumber.{OptionalNumber}
+use Rattle.book.specs.declared.layout.Plan.{Plan}
+use Rattle.activities.specs.declared.Stretch.{Stretch}
+use Rattle.activities.specs.Schedule.{scheduleOf, firstIn, lastIn}
+use Rattle.activities.specs.Stretches.{DatedSpans, CoversSpans}
+use Rattle.answers.specs.declared.Reply.{Reply}
+use Rattle.answers.specs.Calls.{Puts}
+use Rattle.answers.specs.Rows.{pointRow}
+use Rattle.prices.specs.Rates.{rateRow, ratesOf}
+use Rattle.bydate.specs.Laid.{Laid}
+use Rattle.bydate.specs.Pointed.{pointsIn, Reaches}
+use Rattle.bydate.proofs.Arrays.{front-long}
+use Rattle.bydate.proofs.Pointing.{points-laid, points-narrow}
+use Rattle.bydate.proofs.Writing.{puts-same}
+use Rattle.spending.specs.declared.budgets.Asked.{Asked}
+use Rattle.spending.specs.Budgeted.{IsAsked, widthOf, chargeCount, HasRoom}
+use Rattle.spending.specs.declared.budgets.Grain.{Grain}
+use Rattle.spending.specs.Grained.{grained}
+use Rattle.spending.specs.Chained.{Chained}
+use Rattle.spending.specs.Charged.{AreTables, Charged, AreSpans, IsScheduled}
+use Rattle.spending.proofs.Charging.{charged-are}
+use Rattle.spending.proofs.Spanning.{spans-are, spans-listed, budget-within}
+
+-- ---- parts of arrays
+
+pub arrays-room :
+    (asked : Asked) {days : List ℕ} (l u r : ℕ) → asked .opened .plan .calendars .count * widthOf asked ≤ length days → chargeCount (asked .opened .plan) * 2 ≤ l → chargeCount (asked .opened .plan) * 3 ≤ u →
+    asked .opened .plan .resources .count * 82 ≤ r →
+    HasRoom asked days (take (chargeCount (asked .opened .plan) * 2) (replicate l 0)) (take (chargeCount (asked .opened .plan) * 3) (replicate u (pos 0))) (take (asked .opened .plan .resources .count * 82) (replicate r 0))
+arrays-room asked l u r e f g h =
+    record {
+      forDays = e;
+      forLinks = sym (front-long {A = ℕ} l 0 (chargeCount (asked .opened .plan) * 2) f);
+      forUnits = sym (front-long u (pos 0) (chargeCount (asked .opened .plan) * 3) g);
+      forRates = sym (front-long {A = ℕ} r 0 (asked .opened .plan .resources .count * 82) h);
+    }
+
+-- ---- the stretch of the planned spans
+
+last-place : (i : ℕ) → i * 13 + 2 + 1 ≡ i * 13 + 3
+last-place i = omega arith
+
+pub planned-dated : (t : List ℕ) → DatedSpans (firstIn t Planned) (lastIn t Planned) → DatedSpans (λ i. getD t (i * 13 + 2) 0) (λ i. getD t (i * 13 + 2 + 1) 0)
+planned-dated t w = record { begins = w .begins; ends = λ i. subst (λ (k : ℕ). getD t k 0 ≤ 47481) (sym (last-place i)) (w .ends i) }
+
+pub planned-covers : (t : List ℕ) {r : Stretch} → CoversSpans (λ i. getD t (i * 13 + 2) 0) (λ i. getD t (i * 13 + 2 + 1) 0) r → CoversSpans (firstIn t Planned) (lastIn t Planned) r
+planned-covers t {r} w =
+    record {
+      least = w .least;
+      most = w .most;
+      ahead = w .ahead;
+      begins = w .begins;
+      starts = w .starts;
+      ends = λ i h. subst (λ (k : ℕ). getD t k 0 ≤ r .to) (last-place i) (w .ends i h);
+    }
+
+-- ---- the dates that are asked, within the stretch
+
+module _ {s : List ℕ} {date : OptionalNumber} {plan : Plan} (p : IsPlanOf s date plan) {schedule : List ℕ} (e : schedule ≡ scheduleOf (content s)) {known : Stretch}
+    (c : CoversSpans (firstIn schedule Planned) (lastIn schedule Planned) known) (from to : ℕ) {lo hi : ℕ} (f : lo ≡ max from (known .from)) (g : hi ≡ min to (known .to))
+  where
+    pub spending-narrow : spendingBetween (content s) lo hi ≡ spendingBetween (content s) from to
+    unfolding spendingBetween
+    spending-narrow = ap₂ (pointsBetween (budgetByDay (content s))) f g ∙ points-narrow (budgetByDay (content s)) from to (known .from) (known .to) (budget-within p e c)
+
+    pub spending-none : hi < lo → spendingBetween (content s) from to ≡ []
+    unfolding spendingBetween
+    spending-none h = sym spending-narrow ∙ points-none (budgetByDay (content s)) lo hi h
+
+module _ {s : List ℕ} {asked : Asked} {schedule : List ℕ} (a : IsAsked s asked schedule) where
+  pub asked-plan : IsPlanOf s (asked .opened .date) (asked .opened .plan)
+  asked-plan = a .opened .plan
+
+  asked-range : InRange (content s)
+  asked-range = content-in-range s (asked-plan .accepted)
+
+  pub asked-calendars : Every CalendarInRange (alikeIn layout.calendar s (asked .opened .plan .calendars))
+  asked-calendars = rw (asked-plan .calendars .listed) at (asked-range .calendars)
+
+  -- ---- the tables
+
+  module _ {days : List ℕ} (room : asked .opened .plan .calendars .count * widthOf asked ≤ length days) where
+    pub asked-spans : AreSpans (asked .known .from) (widthOf asked) days schedule
+    asked-spans = spans-are asked-plan (a .scheduled) (a .covers) room
+
+    pub asked-listed : ShowsAll (alikeIn layout.calendar s (asked .opened .plan .calendars)) (asked .known .from) (asked .known .to) days → IsScheduled (content s) (asked .known .from) (widthOf asked) days schedule
+    asked-listed = spans-listed asked-plan (a .scheduled) (a .covers) room
+
+  pub asked-charged :
+      {links : List ℕ} {units : List ℤ} → AreTables (content s) (asked .opened .plan .assignments .count) links units →
+      {rates : List ℕ} → rates ≡ flatMap rateRow (alikeIn layout.resource s (asked .opened .plan .resources)) → {after heads : List ℕ} → Chained links after heads →
+      Charged (content s) (asked .opened .plan .assignments .count) rates after units heads
+  unfolding ratesOf
+  asked-charged t e c = charged-are t asked-range (e ∙ sym (ap (flatMap rateRow) (asked-plan .resources .listed))) c
+
+  -- ---- tables for all dates of a book
+
+  pub full-dates : widthOf asked ≤ 36525
+  full-dates = omega (arith, a .covers .least, a .covers .most)
+
+  pub full-days : asked .opened .plan .calendars .count * widthOf asked ≤ 584400
+  full-days = omega (arith, full-dates, mul-le-mul-right (widthOf asked) (calendars-most asked-plan))
+
+  pub full-charges : chargeCount (asked .opened .plan) ≤ 3000
+  full-charges = omega (arith, assignments-most asked-plan, expenses-most asked-plan)
+
+  -- ---- the points
+
+  -- a table of so many dates has those that are asked
+  pub asked-reach : (n : ℕ) {table : List ℕ} → length table ≡ n → widthOf asked * 2 ≤ n → Reaches (asked .known .from) table (asked .from) (asked .to)
+  asked-reach n e h =
+      record {
+        start = a .begins;
+        reach = omega (arith, a .begins, a .rises, a .ends);
+        latest = omega (arith, a .ends, a .covers .most);
+      }
+
+  -- what is laid onto an empty table of n numbers makes the rows
+  pub asked-rows :
+      (n : ℕ) {table : List ℕ} → Laid (asked .known .from) (budgetByDay (content s)) (replicate n 0) table → widthOf asked * 2 ≤ n → {out after : List ℕ} {r : Reply} →
+      Puts (map pointRow (grained (asked .grain) (pointsIn (asked .known .from) table (asked .from) (asked .to)))) out r after →
+      Puts (map pointRow (grained (asked .grain) (spendingBetween (content s) (asked .from) (asked .to)))) out r after
+  unfolding spendingBetween
+  asked-rows n l h p = puts-same (ap (grained (asked .grain)) (points-laid n l (asked-reach n (l .long ∙ length-replicate {A = ℕ} n 0) h))) p
