@@ -11,7 +11,7 @@ use Rattle.model.specs.Demand.{Reading}
 use Rattle.answers.specs.declared.Reply.{Reply}
 use Rattle.answers.specs.declared.Reply.the-variants.{Accepted}
 use Rattle.answers.specs.Rows.{earnedValueRows, projectEarnedRows, plannedCurveRows}
-use Rattle.answers.specs.Calls.{asks, reply, left, replyPlace}
+use Rattle.answers.specs.Calls.{Condition, dateAsked, reply, left, replyPlace}
 
 -- ---- the numbers of a row
 
@@ -41,17 +41,24 @@ pub record LentAt : Type 0 where
 abbrev pub IsAccepted : Reply → Type 0
 IsAccepted r = (n : ℕ) × (r ≡ Accepted n)
 
+-- what the calls ask: a date, or two of them
+abbrev pub atDate : ℕ → List Condition
+atDate date = dateAsked date ∷ []
+
+abbrev pub between : ℕ → ℕ → List Condition
+between from to = dateAsked from ∷ dateAsked to ∷ []
+
 -- on a book of these bytes
 module _ (s : List ℕ) where
   abbrev pub earnedReply : LentAt → Reply
-  earnedReply at = reply (asks [] (at .date ∷ [])) (earnedValueRows (at .date)) s (length (at .earned))
+  earnedReply at = reply (atDate (at .date)) (earnedValueRows (at .date)) s (length (at .earned))
 
   abbrev pub projectReply : LentAt → Reply
-  projectReply at = reply (asks [] (at .date ∷ [])) (projectEarnedRows (at .date)) s (length (at .project))
+  projectReply at = reply (atDate (at .date)) (projectEarnedRows (at .date)) s (length (at .project))
 
   -- from 10,957 to a date
   abbrev pub curveReply : ℕ → List ℕ → Reply
-  curveReply to lent = reply (asks [] (10957 ∷ to ∷ [])) (plannedCurveRows 10957 to) s (length lent)
+  curveReply to lent = reply (between 10957 to) (plannedCurveRows 10957 to) s (length lent)
 
   -- both calls at D and at E, and the planned curve to E, with what is lent to it
   pub record AllAccepted (D E : LentAt) (curve : List ℕ) : Type 0 where
@@ -66,10 +73,10 @@ module _ (s : List ℕ) where
   -- an activity's planned value and budget are those numbers of its row, the project's planned value that of the only row
   abbrev pub lentReading : LentAt → Reading
   lentReading at =
-      let earned = left (asks [] (at .date ∷ [])) (earnedValueRows (at .date)) s (at .earned) in
-      let project = left (asks [] (at .date ∷ [])) (projectEarnedRows (at .date)) s (at .project) in
+      let earned = left (atDate (at .date)) (earnedValueRows (at .date)) s (at .earned) in
+      let project = left (atDate (at .date)) (projectEarnedRows (at .date)) s (at .project) in
       record { date = at .date; planned = plannedIn earned; budget = budgetIn earned; project = plannedIn project 0 }
 
   -- the points, as many as the rows that are answered
   abbrev pub lentCurve : ℕ → List ℕ → List Dated
-  lentCurve to lent = map (pointIn (left (asks [] (10957 ∷ to ∷ [])) (plannedCurveRows 10957 to) s lent)) (span 0 (replyPlace (curveReply to lent)))
+  lentCurve to lent = map (pointIn (left (between 10957 to) (plannedCurveRows 10957 to) s lent)) (span 0 (replyPlace (curveReply to lent)))

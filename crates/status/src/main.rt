@@ -5,9 +5,6 @@ ghost use mathlib.Core.Path.{_≡_};
 ghost use lib.ListN.{length};
 ghost use Rattle.format.specs.Verdict.{content};
 ghost use Rattle.status.specs.Asked.{askedAt};
-
-mod text;
-
 use answers::Reply;
 use book::layout::read_layout;
 use fields::OptionalNumber;

@@ -1,10 +1,9 @@
 // The C interface: include/surukeva.h declares it.
 ghost use mathlib.Core.List.{[], _∷_};
 ghost use mathlib.Core.Path.{_≡_};
-ghost use lib.ListN.{length};
 ghost use Rattle.format.specs.Verdict.{verdict, answerOf, answerNumber, answerPlace};
 ghost use Rattle.answers.specs.Rows.{costsRows, projectCostRows, actualByKindRows, spendingRows, spendingByMonthRows, earnedValueRows, projectEarnedRows, plannedCurveRows, performanceRows, indicesRows, projectIndicesRows, periodPointsRows, variancesRows, budgetRows, fundingRows};
-ghost use Rattle.answers.specs.Calls.{asks, reply, left, replyNumber, replyPlace};
+ghost use Rattle.answers.specs.Calls.{activityAsked, dateAsked, replyNumber, replyPlace, Returns};
 use answers::Reply;
 use format::Answer;
 
@@ -45,9 +44,7 @@ fn give(answer: Reply, at: &mut u64) -> u64
 // Each activity's costs.
 #[no_mangle]
 pub extern "C" fn surukeva_costs(book: &[u8], out: &mut [u64], at: &mut u64) -> u64
-    ensures { λ r. ⌜ r ≡ replyNumber (reply (asks [] []) costsRows (now (book .entry)) (length (now (out .entry)))) ⌝ }
-    ensures place { λ r. ⌜ now (at .exit) ≡ replyPlace (reply (asks [] []) costsRows (now (book .entry)) (length (now (out .entry)))) ⌝ }
-    ensures lent { λ r. ⌜ now (out .exit) ≡ left (asks [] []) costsRows (now (book .entry)) (now (out .entry)) ⌝ }
+    ensures { λ r. ⌜ Returns [] costsRows (now (book .entry)) (now (out .entry)) r (now (at .exit)) (now (out .exit)) ⌝ }
 {
     let answer = engine::costs(book, out);
     give(answer, at)
@@ -56,9 +53,7 @@ pub extern "C" fn surukeva_costs(book: &[u8], out: &mut [u64], at: &mut u64) -> 
 // The project's costs.
 #[no_mangle]
 pub extern "C" fn surukeva_project_cost(book: &[u8], out: &mut [u64], at: &mut u64) -> u64
-    ensures { λ r. ⌜ r ≡ replyNumber (reply (asks [] []) projectCostRows (now (book .entry)) (length (now (out .entry)))) ⌝ }
-    ensures place { λ r. ⌜ now (at .exit) ≡ replyPlace (reply (asks [] []) projectCostRows (now (book .entry)) (length (now (out .entry)))) ⌝ }
-    ensures lent { λ r. ⌜ now (out .exit) ≡ left (asks [] []) projectCostRows (now (book .entry)) (now (out .entry)) ⌝ }
+    ensures { λ r. ⌜ Returns [] projectCostRows (now (book .entry)) (now (out .entry)) r (now (at .exit)) (now (out .exit)) ⌝ }
 {
     let answer = engine::project_cost(book, out);
     give(answer, at)
@@ -67,9 +62,7 @@ pub extern "C" fn surukeva_project_cost(book: &[u8], out: &mut [u64], at: &mut u
 // Each activity's own actual cost by kind.
 #[no_mangle]
 pub extern "C" fn surukeva_actual_by_kind(book: &[u8], out: &mut [u64], at: &mut u64) -> u64
-    ensures { λ r. ⌜ r ≡ replyNumber (reply (asks [] []) actualByKindRows (now (book .entry)) (length (now (out .entry)))) ⌝ }
-    ensures place { λ r. ⌜ now (at .exit) ≡ replyPlace (reply (asks [] []) actualByKindRows (now (book .entry)) (length (now (out .entry)))) ⌝ }
-    ensures lent { λ r. ⌜ now (out .exit) ≡ left (asks [] []) actualByKindRows (now (book .entry)) (now (out .entry)) ⌝ }
+    ensures { λ r. ⌜ Returns [] actualByKindRows (now (book .entry)) (now (out .entry)) r (now (at .exit)) (now (out .exit)) ⌝ }
 {
     let answer = engine::actual_by_kind(book, out);
     give(answer, at)
@@ -84,9 +77,7 @@ pub extern "C" fn surukeva_spending(
     out: &mut [u64],
     at: &mut u64,
 ) -> u64
-    ensures { λ r. ⌜ r ≡ replyNumber (reply (asks [] (from ∷ to ∷ [])) (spendingRows from to) (now (book .entry)) (length (now (out .entry)))) ⌝ }
-    ensures place { λ r. ⌜ now (at .exit) ≡ replyPlace (reply (asks [] (from ∷ to ∷ [])) (spendingRows from to) (now (book .entry)) (length (now (out .entry)))) ⌝ }
-    ensures lent { λ r. ⌜ now (out .exit) ≡ left (asks [] (from ∷ to ∷ [])) (spendingRows from to) (now (book .entry)) (now (out .entry)) ⌝ }
+    ensures { λ r. ⌜ Returns (dateAsked from ∷ dateAsked to ∷ []) (spendingRows from to) (now (book .entry)) (now (out .entry)) r (now (at .exit)) (now (out .exit)) ⌝ }
 {
     let answer = engine::spending(book, from, to, out);
     give(answer, at)
@@ -95,9 +86,7 @@ pub extern "C" fn surukeva_spending(
 // The spending by month.
 #[no_mangle]
 pub extern "C" fn surukeva_spending_by_month(book: &[u8], out: &mut [u64], at: &mut u64) -> u64
-    ensures { λ r. ⌜ r ≡ replyNumber (reply (asks [] []) spendingByMonthRows (now (book .entry)) (length (now (out .entry)))) ⌝ }
-    ensures place { λ r. ⌜ now (at .exit) ≡ replyPlace (reply (asks [] []) spendingByMonthRows (now (book .entry)) (length (now (out .entry)))) ⌝ }
-    ensures lent { λ r. ⌜ now (out .exit) ≡ left (asks [] []) spendingByMonthRows (now (book .entry)) (now (out .entry)) ⌝ }
+    ensures { λ r. ⌜ Returns [] spendingByMonthRows (now (book .entry)) (now (out .entry)) r (now (at .exit)) (now (out .exit)) ⌝ }
 {
     let answer = engine::spending_by_month(book, out);
     give(answer, at)
@@ -111,9 +100,7 @@ pub extern "C" fn surukeva_earned_value(
     out: &mut [u64],
     at: &mut u64,
 ) -> u64
-    ensures { λ r. ⌜ r ≡ replyNumber (reply (asks [] (date ∷ [])) (earnedValueRows date) (now (book .entry)) (length (now (out .entry)))) ⌝ }
-    ensures place { λ r. ⌜ now (at .exit) ≡ replyPlace (reply (asks [] (date ∷ [])) (earnedValueRows date) (now (book .entry)) (length (now (out .entry)))) ⌝ }
-    ensures lent { λ r. ⌜ now (out .exit) ≡ left (asks [] (date ∷ [])) (earnedValueRows date) (now (book .entry)) (now (out .entry)) ⌝ }
+    ensures { λ r. ⌜ Returns (dateAsked date ∷ []) (earnedValueRows date) (now (book .entry)) (now (out .entry)) r (now (at .exit)) (now (out .exit)) ⌝ }
 {
     let answer = engine::earned_value(book, date, out);
     give(answer, at)
@@ -127,9 +114,7 @@ pub extern "C" fn surukeva_project_earned(
     out: &mut [u64],
     at: &mut u64,
 ) -> u64
-    ensures { λ r. ⌜ r ≡ replyNumber (reply (asks [] (date ∷ [])) (projectEarnedRows date) (now (book .entry)) (length (now (out .entry)))) ⌝ }
-    ensures place { λ r. ⌜ now (at .exit) ≡ replyPlace (reply (asks [] (date ∷ [])) (projectEarnedRows date) (now (book .entry)) (length (now (out .entry)))) ⌝ }
-    ensures lent { λ r. ⌜ now (out .exit) ≡ left (asks [] (date ∷ [])) (projectEarnedRows date) (now (book .entry)) (now (out .entry)) ⌝ }
+    ensures { λ r. ⌜ Returns (dateAsked date ∷ []) (projectEarnedRows date) (now (book .entry)) (now (out .entry)) r (now (at .exit)) (now (out .exit)) ⌝ }
 {
     let answer = engine::project_earned(book, date, out);
     give(answer, at)
@@ -144,9 +129,7 @@ pub extern "C" fn surukeva_planned_curve(
     out: &mut [u64],
     at: &mut u64,
 ) -> u64
-    ensures { λ r. ⌜ r ≡ replyNumber (reply (asks [] (from ∷ to ∷ [])) (plannedCurveRows from to) (now (book .entry)) (length (now (out .entry)))) ⌝ }
-    ensures place { λ r. ⌜ now (at .exit) ≡ replyPlace (reply (asks [] (from ∷ to ∷ [])) (plannedCurveRows from to) (now (book .entry)) (length (now (out .entry)))) ⌝ }
-    ensures lent { λ r. ⌜ now (out .exit) ≡ left (asks [] (from ∷ to ∷ [])) (plannedCurveRows from to) (now (book .entry)) (now (out .entry)) ⌝ }
+    ensures { λ r. ⌜ Returns (dateAsked from ∷ dateAsked to ∷ []) (plannedCurveRows from to) (now (book .entry)) (now (out .entry)) r (now (at .exit)) (now (out .exit)) ⌝ }
 {
     let answer = engine::planned_curve(book, from, to, out);
     give(answer, at)
@@ -160,9 +143,7 @@ pub extern "C" fn surukeva_performance(
     out: &mut [u64],
     at: &mut u64,
 ) -> u64
-    ensures { λ r. ⌜ r ≡ replyNumber (reply (asks (activity ∷ []) []) (performanceRows activity) (now (book .entry)) (length (now (out .entry)))) ⌝ }
-    ensures place { λ r. ⌜ now (at .exit) ≡ replyPlace (reply (asks (activity ∷ []) []) (performanceRows activity) (now (book .entry)) (length (now (out .entry)))) ⌝ }
-    ensures lent { λ r. ⌜ now (out .exit) ≡ left (asks (activity ∷ []) []) (performanceRows activity) (now (book .entry)) (now (out .entry)) ⌝ }
+    ensures { λ r. ⌜ Returns (activityAsked activity ∷ []) (performanceRows activity) (now (book .entry)) (now (out .entry)) r (now (at .exit)) (now (out .exit)) ⌝ }
 {
     let answer = engine::performance(book, activity, out);
     give(answer, at)
@@ -177,9 +158,7 @@ pub extern "C" fn surukeva_indices(
     out: &mut [u64],
     at: &mut u64,
 ) -> u64
-    ensures { λ r. ⌜ r ≡ replyNumber (reply (asks (activity ∷ []) (date ∷ [])) (indicesRows activity date) (now (book .entry)) (length (now (out .entry)))) ⌝ }
-    ensures place { λ r. ⌜ now (at .exit) ≡ replyPlace (reply (asks (activity ∷ []) (date ∷ [])) (indicesRows activity date) (now (book .entry)) (length (now (out .entry)))) ⌝ }
-    ensures lent { λ r. ⌜ now (out .exit) ≡ left (asks (activity ∷ []) (date ∷ [])) (indicesRows activity date) (now (book .entry)) (now (out .entry)) ⌝ }
+    ensures { λ r. ⌜ Returns (activityAsked activity ∷ dateAsked date ∷ []) (indicesRows activity date) (now (book .entry)) (now (out .entry)) r (now (at .exit)) (now (out .exit)) ⌝ }
 {
     let answer = engine::indices(book, activity, date, out);
     give(answer, at)
@@ -193,9 +172,7 @@ pub extern "C" fn surukeva_project_indices(
     out: &mut [u64],
     at: &mut u64,
 ) -> u64
-    ensures { λ r. ⌜ r ≡ replyNumber (reply (asks [] (date ∷ [])) (projectIndicesRows date) (now (book .entry)) (length (now (out .entry)))) ⌝ }
-    ensures place { λ r. ⌜ now (at .exit) ≡ replyPlace (reply (asks [] (date ∷ [])) (projectIndicesRows date) (now (book .entry)) (length (now (out .entry)))) ⌝ }
-    ensures lent { λ r. ⌜ now (out .exit) ≡ left (asks [] (date ∷ [])) (projectIndicesRows date) (now (book .entry)) (now (out .entry)) ⌝ }
+    ensures { λ r. ⌜ Returns (dateAsked date ∷ []) (projectIndicesRows date) (now (book .entry)) (now (out .entry)) r (now (at .exit)) (now (out .exit)) ⌝ }
 {
     let answer = engine::project_indices(book, date, out);
     give(answer, at)
@@ -204,9 +181,7 @@ pub extern "C" fn surukeva_project_indices(
 // The financial periods.
 #[no_mangle]
 pub extern "C" fn surukeva_period_points(book: &[u8], out: &mut [u64], at: &mut u64) -> u64
-    ensures { λ r. ⌜ r ≡ replyNumber (reply (asks [] []) periodPointsRows (now (book .entry)) (length (now (out .entry)))) ⌝ }
-    ensures place { λ r. ⌜ now (at .exit) ≡ replyPlace (reply (asks [] []) periodPointsRows (now (book .entry)) (length (now (out .entry)))) ⌝ }
-    ensures lent { λ r. ⌜ now (out .exit) ≡ left (asks [] []) periodPointsRows (now (book .entry)) (now (out .entry)) ⌝ }
+    ensures { λ r. ⌜ Returns [] periodPointsRows (now (book .entry)) (now (out .entry)) r (now (at .exit)) (now (out .exit)) ⌝ }
 {
     let answer = engine::period_points(book, out);
     give(answer, at)
@@ -215,9 +190,7 @@ pub extern "C" fn surukeva_period_points(book: &[u8], out: &mut [u64], at: &mut 
 // Each activity's variances from the baseline.
 #[no_mangle]
 pub extern "C" fn surukeva_variances(book: &[u8], out: &mut [u64], at: &mut u64) -> u64
-    ensures { λ r. ⌜ r ≡ replyNumber (reply (asks [] []) variancesRows (now (book .entry)) (length (now (out .entry)))) ⌝ }
-    ensures place { λ r. ⌜ now (at .exit) ≡ replyPlace (reply (asks [] []) variancesRows (now (book .entry)) (length (now (out .entry)))) ⌝ }
-    ensures lent { λ r. ⌜ now (out .exit) ≡ left (asks [] []) variancesRows (now (book .entry)) (now (out .entry)) ⌝ }
+    ensures { λ r. ⌜ Returns [] variancesRows (now (book .entry)) (now (out .entry)) r (now (at .exit)) (now (out .exit)) ⌝ }
 {
     let answer = engine::variances(book, out);
     give(answer, at)
@@ -226,9 +199,7 @@ pub extern "C" fn surukeva_variances(book: &[u8], out: &mut [u64], at: &mut u64)
 // The lines of the budget.
 #[no_mangle]
 pub extern "C" fn surukeva_budget(book: &[u8], out: &mut [u64], at: &mut u64) -> u64
-    ensures { λ r. ⌜ r ≡ replyNumber (reply (asks [] []) budgetRows (now (book .entry)) (length (now (out .entry)))) ⌝ }
-    ensures place { λ r. ⌜ now (at .exit) ≡ replyPlace (reply (asks [] []) budgetRows (now (book .entry)) (length (now (out .entry)))) ⌝ }
-    ensures lent { λ r. ⌜ now (out .exit) ≡ left (asks [] []) budgetRows (now (book .entry)) (now (out .entry)) ⌝ }
+    ensures { λ r. ⌜ Returns [] budgetRows (now (book .entry)) (now (out .entry)) r (now (at .exit)) (now (out .exit)) ⌝ }
 {
     let answer = engine::budget(book, out);
     give(answer, at)
@@ -237,9 +208,7 @@ pub extern "C" fn surukeva_budget(book: &[u8], out: &mut [u64], at: &mut u64) ->
 // The funding.
 #[no_mangle]
 pub extern "C" fn surukeva_funding(book: &[u8], out: &mut [u64], at: &mut u64) -> u64
-    ensures { λ r. ⌜ r ≡ replyNumber (reply (asks [] []) fundingRows (now (book .entry)) (length (now (out .entry)))) ⌝ }
-    ensures place { λ r. ⌜ now (at .exit) ≡ replyPlace (reply (asks [] []) fundingRows (now (book .entry)) (length (now (out .entry)))) ⌝ }
-    ensures lent { λ r. ⌜ now (out .exit) ≡ left (asks [] []) fundingRows (now (book .entry)) (now (out .entry)) ⌝ }
+    ensures { λ r. ⌜ Returns [] fundingRows (now (book .entry)) (now (out .entry)) r (now (at .exit)) (now (out .exit)) ⌝ }
 {
     let answer = engine::funding(book, out);
     give(answer, at)

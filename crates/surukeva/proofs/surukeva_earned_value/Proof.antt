@@ -1,7 +1,6 @@
 -- `surukeva_earned_value` meets its contract: the call's answer, given in C's way.
 use borrow.Author.Needs.{needs}
-use mathlib.Core.Path.{ap, _∙_}
-use Rattle.answers.specs.Calls.{replyNumber, replyPlace}
+use Rattle.answers.proofs.Replies.{returned}
 use Rattle.surukeva.proofs.surukeva_earned_value.Statement.{statement}
 use Rattle.surukeva.proofs.surukeva_earned_value.Tie as tie
 
@@ -15,9 +14,7 @@ same-length : tie.Need-same-length
 same-length c = search needs
 
 returns : tie.Need-returns
-returns c =
-    let made = c .before .before .before .before .earned-value .ensures in
-    (c .give .ensures .0 ∙ ap replyNumber (made .0), (c .give .ensures .1 ∙ ap replyPlace (made .0), made .1))
+returns c = returned _ _ _ _ (c .before .before .before .before .earned-value .ensures) (c .give .ensures .0) (c .give .ensures .1)
 
 pub surukeva-earned-value-spec : {M : Type 1} → statement M
 surukeva-earned-value-spec = tie.close (tie.spec earned-value-requires give-requires same-length returns)

@@ -3,10 +3,10 @@ use native.Mathlib.Omega.{arith}
 use Prim.Native.Nat.{_<_}
 use mathlib.Core.Path.{_∙_}
 use lib.ListN.{take}
-use Rattle.status.proofs.Spelling.{few, decimal-is, same}
+use Rattle.text.proofs.Spelling.{few, decimal-is, same}
 use borrow.Author.Needs.{needs}
-use Rattle.status.proofs.text.put_decimal.Statement.{statement}
-use Rattle.status.proofs.text.put_decimal.Tie as tie
+use Rattle.text.proofs.put_decimal.Statement.{statement}
+use Rattle.text.proofs.put_decimal.Tie as tie
 
 decimal-requires : tie.Need-decimal-requires
 decimal-requires c κs = search needs

@@ -1,8 +1,8 @@
 -- `put` meets its contract: what is copied stands behind the first bytes. Assumes nothing.
-use Rattle.status.proofs.Spelling.{behind}
+use Rattle.text.proofs.Spelling.{behind}
 use borrow.Author.Needs.{needs}
-use Rattle.status.proofs.text.put.Statement.{statement}
-use Rattle.status.proofs.text.put.Tie as tie
+use Rattle.text.proofs.put.Statement.{statement}
+use Rattle.text.proofs.put.Tie as tie
 
 sub-copy : tie.Need-sub-copy
 sub-copy c = search needs

@@ -2,11 +2,11 @@
 use native.Mathlib.Omega.{arith}
 use mathlib.Core.List.{[], _∷_}
 use lib.ListN.{take}
-use Rattle.status.specs.Text.{figures, line}
-use Rattle.status.proofs.Spelling.{both}
+use Rattle.text.specs.Text.{figures, line}
+use Rattle.text.proofs.Spelling.{both}
 use borrow.Author.Needs.{needs}
-use Rattle.status.proofs.text.put_rest.Statement.{statement}
-use Rattle.status.proofs.text.put_rest.Tie as tie
+use Rattle.text.proofs.put_rest.Statement.{statement}
+use Rattle.text.proofs.put_rest.Tie as tie
 
 put-figures-requires : tie.Need-put-figures-requires
 put-figures-requires c κs = search needs

@@ -5,7 +5,7 @@ ghost use mathlib.Core.Path.{_≡_};
 ghost use Prim.Native.Nat.{_+_, _*_, _≤_};
 ghost use lib.ListN.{length, take};
 ghost use Rattle.money.specs.Words.{ofBits};
-ghost use Rattle.status.specs.Text.{decimal, signed, figures, line};
+ghost use Rattle.text.specs.Text.{decimal, signed, figures, line};
 
 // Puts bytes.
 fn put(out: &mut [u8], at: usize, bytes: &[u8]) -> usize

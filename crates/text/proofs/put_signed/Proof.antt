@@ -3,12 +3,12 @@ use Prim.Native.Nat.{_+_, _-_}
 use native.Mathlib.Omega.{arith}
 use mathlib.Core.Path.{sym}
 use mathlib.Core.List.{[], _∷_}
-use Rattle.status.specs.Text.{decimal}
+use Rattle.text.specs.Text.{decimal}
 use lib.ListN.{take}
-use Rattle.status.proofs.Spelling.{signed-low, signed-high, same, both}
+use Rattle.text.proofs.Spelling.{signed-low, signed-high, same, both}
 use borrow.Author.Needs.{needs}
-use Rattle.status.proofs.text.put_signed.Statement.{statement}
-use Rattle.status.proofs.text.put_signed.Tie as tie
+use Rattle.text.proofs.put_signed.Statement.{statement}
+use Rattle.text.proofs.put_signed.Tie as tie
 
 put-decimal-requires : tie.Need-put-decimal-requires
 put-decimal-requires c κs = search needs

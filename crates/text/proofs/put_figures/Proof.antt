@@ -6,10 +6,10 @@ use mathlib.Core.Path.{_≡_, refl, sym, _∙_}
 use mathlib.Core.List.{_++_}
 use lib.ListN.{length, take, drop}
 use borrow.Author.Needs.{needs}
-use Rattle.status.specs.Text.{figures}
-use Rattle.status.proofs.Spelling.{figures-next, figures-end}
-use Rattle.status.proofs.text.put_figures.Statement.{statement}
-use Rattle.status.proofs.text.put_figures.Tie as tie
+use Rattle.text.specs.Text.{figures}
+use Rattle.text.proofs.Spelling.{figures-next, figures-end}
+use Rattle.text.proofs.put_figures.Statement.{statement}
+use Rattle.text.proofs.put_figures.Tie as tie
 
 abbrev Inv-loop : tie.InvT-loop
 Inv-loop out₀ at numbers end₀ i₀ t7 out end i =

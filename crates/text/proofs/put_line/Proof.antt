@@ -2,11 +2,11 @@
 use native.Mathlib.Omega.{arith}
 use mathlib.Core.List.{[]}
 use lib.ListN.{take}
-use Rattle.status.specs.Text.{line}
-use Rattle.status.proofs.Spelling.{both}
+use Rattle.text.specs.Text.{line}
+use Rattle.text.proofs.Spelling.{both}
 use borrow.Author.Needs.{needs}
-use Rattle.status.proofs.text.put_line.Statement.{statement}
-use Rattle.status.proofs.text.put_line.Tie as tie
+use Rattle.text.proofs.put_line.Statement.{statement}
+use Rattle.text.proofs.put_line.Tie as tie
 
 put-requires : tie.Need-put-requires
 put-requires c κs = search needs

@@ -12,7 +12,7 @@ use lib.ListN.{length, getD, take, drop, drop-of-length-le}
 use lib.Seq.{length-take-le, take-length, take-append-add, take-append-seam, drop-cons}
 use Rattle.io.specs.Digits.{digits, Fewest}
 use Rattle.money.specs.Words.{ofBits}
-use Rattle.status.specs.Text.{places, decimal, signed, figures}
+use Rattle.text.specs.Text.{places, decimal, signed, figures}
 
 -- text behind text: the same text in other words, and two texts
 pub same : (xs : List ℕ) {zs s t : List ℕ} → zs ≡ xs ++ s → s ≡ t → zs ≡ xs ++ t

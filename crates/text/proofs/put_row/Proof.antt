@@ -2,11 +2,11 @@
 use native.Mathlib.Omega.{arith}
 use mathlib.Core.List.{[]}
 use lib.ListN.{take}
-use Rattle.status.specs.Text.{decimal, line}
-use Rattle.status.proofs.Spelling.{both}
+use Rattle.text.specs.Text.{decimal, line}
+use Rattle.text.proofs.Spelling.{both}
 use borrow.Author.Needs.{needs}
-use Rattle.status.proofs.text.put_row.Statement.{statement}
-use Rattle.status.proofs.text.put_row.Tie as tie
+use Rattle.text.proofs.put_row.Statement.{statement}
+use Rattle.text.proofs.put_row.Tie as tie
 
 put-decimal-requires : tie.Need-put-decimal-requires
 put-decimal-requires c κs = search needs
