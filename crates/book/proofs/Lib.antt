@@ -3,6 +3,4 @@ pub mod Filled
 pub mod Limits
 pub mod Marks
 pub mod Whole
-pub mod Index
-pub mod Parents
 pub mod Plan

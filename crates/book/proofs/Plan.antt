@@ -2,45 +2,33 @@
 use Prim.Native.Nat.{ℕ, _≤_}
 use native.Mathlib.Omega.{arith}
 use mathlib.Core.Path.{_≡_, ap, sym, _∙_}
-use mathlib.Core.List.{List, [], _∷_}
+use mathlib.Core.List.{List, []}
 use mathlib.Core.Option.{Option, none, some, Option·getD}
 use lib.ListN.{length}
-use Rattle.format.specs.declared.Pos.{Pos}
 use Rattle.format.specs.declared.Pos.the-variants.{At}
 use Rattle.format.specs.Bytes.{Bytes}
 use Rattle.format.specs.Inverse.{Given}
-use Rattle.format.specs.Codec.{Codec, marked, upTo}
-use Rattle.format.specs.Records.{nextOf}
+use Rattle.format.specs.Codec.{Codec, stay}
 use Rattle.format.specs.Book.{BaselineLine, Book}
-use Rattle.format.specs.Format.{baselineLine, budget}
 use Rattle.format.specs.Verdict.{content, verdict}
 use Rattle.format.specs.InRange.{Every, ActivityInRange, AssignmentInRange, ExpenseInRange, BaselineLineInRange, BaselineInRange, BudgetInRange, BudgetChangeInRange, PeriodRecordInRange}
-use Rattle.format.proofs.Walks.{times-length, began}
+use Rattle.format.proofs.Walks.{times-length}
 use Rattle.format.proofs.Theorems.{verdict-accepts, content-limits, content-in-range}
 use Rattle.fields.specs.declared.OptionalNumber.{OptionalNumber}
 use Rattle.book.specs.declared.Section.{Section}
 use Rattle.book.specs.declared.layout.Plan.{Plan}
 use Rattle.book.specs.declared.layout.Ledger.{Ledger}
 use Rattle.book.specs.declared.layout.Layout.{Layout}
-use Rattle.book.specs.Sections.{IsAlike, elements, alikeIn}
+use Rattle.book.specs.Sections.{elements, alikeIn}
 use Rattle.book.specs.Layout.{IsLayout, bookOf}
 use Rattle.book.specs.Plan.{Placed, IsPlanOf, IsBaselineOf, IsLedgerOf}
 use Rattle.book.proofs.Whole.{layout-book}
-use Rattle.book.proofs.Index.{Stands, alike-length, element-placed, ended, back}
 
 -- ---- from the layout
-
-placed :
-    {A : Type 0} {low most : ℕ} {c : Codec A} {s : List ℕ} {p : Pos} {l : Section} → IsAlike low most c s p l → Stands (l .next) →
-    (xs : List A) → alikeIn c s l ≡ xs → Placed c s l xs
-placed {c} {s} {l} i stands xs e = record { listed = sym e; at = λ t k d room h. rw (← e) (element-placed i stands t k d room h) }
 
 module _ (s : List ℕ) (r : Layout) (l : IsLayout s r) where
   same : bookOf s r ≡ content s
   same = ap (λ v. v .0) (layout-book s r l)
-
-  ends : r .end ≡ verdict s
-  ends = ap (λ v. v .1) (layout-book s r l)
 
   pub baseline-of : IsBaselineOf s (r .plan) (r .ledger .baseline)
   unfolding bookOf
@@ -67,39 +55,17 @@ module _ (s : List ℕ) (r : Layout) (l : IsLayout s r) where
   forecast-of = sym (ap (λ (b : Book). b .forecast) same)
 
   module _ (j : ℕ) (accepted : verdict s ≡ At j) where
-    baseline-stands : Stands (r .ledger .baseline .next)
-    baseline-stands =
-        let ledger = l .ledger in
-        back (ledger .budgets)
-        (back (ledger .log)
-        (back (ledger .funds) (back (ledger .periods) (back (ledger .records) (ended s _ j (sym (l .last) ∙ ends ∙ accepted))))))
-
-    expenses-stand : Stands (r .plan .expenses .next)
-    expenses-stand = began (marked (upTo 1000 (baselineLine (r .plan .activities .count)))) s _ _ (sym (ap nextOf (l .ledger .baseline)) ∙ baseline-stands)
-
-    assignments-stand : Stands (r .plan .assignments .next)
-    assignments-stand = back (l .plan .expenses) expenses-stand
-
-    resources-stand : Stands (r .plan .resources .next)
-    resources-stand = back (l .plan .assignments) assignments-stand
-
-    activities-stand : Stands (r .plan .activities .next)
-    activities-stand = back (l .plan .resources) resources-stand
-
-    calendars-stand : Stands (r .plan .calendars .next)
-    calendars-stand = back (l .plan .activities) activities-stand
-
     pub plan-of : Bytes s → IsPlanOf s (r .header .date) (r .plan)
     unfolding bookOf
     plan-of bytes =
         record {
           accepted = verdict-accepts s bytes j accepted;
           dataDate = sym (ap (λ (b : Book). b .dataDate) same);
-          calendars = placed (l .plan .calendars) calendars-stand _ (ap (λ (b : Book). b .calendars) same);
-          activities = placed (l .plan .activities) activities-stand _ (ap (λ (b : Book). b .activities) same);
-          resources = placed (l .plan .resources) resources-stand _ (ap (λ (b : Book). b .resources) same);
-          assignments = placed (l .plan .assignments) assignments-stand _ (ap (λ (b : Book). b .assignments) same);
-          expenses = placed (l .plan .expenses) expenses-stand _ (ap (λ (b : Book). b .expenses) same);
+          calendars = record { listed = sym (ap (λ (b : Book). b .calendars) same) };
+          activities = record { listed = sym (ap (λ (b : Book). b .activities) same) };
+          resources = record { listed = sym (ap (λ (b : Book). b .resources) same) };
+          assignments = record { listed = sym (ap (λ (b : Book). b .assignments) same) };
+          expenses = record { listed = sym (ap (λ (b : Book). b .expenses) same) };
         }
 
 -- ---- counts
@@ -108,6 +74,10 @@ module _ (s : List ℕ) (r : Layout) (l : IsLayout s r) where
 lines-range : (n : ℕ) (o : Option (List BaselineLine)) → Given (BaselineInRange n) o → Every (BaselineLineInRange n) (Option·getD o [])
 lines-range n none h = λ k d l. absurd (omega arith)
 lines-range n (some l) h = h .lines
+
+pub alike-length : {A : Type 0} (c : Codec A) (s : List ℕ) (r : Section) → length (alikeIn c s r) ≡ r .count
+unfolding elements
+alike-length c s r = times-length (λ x. c) stay s (r .count) tt (r .first)
 
 pub placed-count : {A : Type 0} {c : Codec A} {s : List ℕ} {l : Section} {xs : List A} → Placed c s l xs → length xs ≡ l .count
 placed-count {c} {s} {l} p = ap length (p .listed) ∙ alike-length c s l
@@ -169,27 +139,11 @@ module _ {s : List ℕ} {date : OptionalNumber} {plan : Plan} (p : IsPlanOf s da
   -- ---- of the ledger's lists
 
   module _ {ledger : Ledger} (l : IsLedgerOf s plan ledger) where
-    pub budgets-count : length (content s .budgets) ≡ ledger .budgets .count
-    unfolding elements
-    budgets-count = ap length (l .budgets) ∙ times-length (budget (plan .activities .count)) (λ before b. b .activity ∷ before) s (ledger .budgets .count) [] (ledger .budgets .first)
-
-    pub log-count : length (content s .log) ≡ ledger .log .count
-    log-count = ap length (l .log) ∙ alike-length _ s (ledger .log)
-
-    pub funds-count : length (content s .funds) ≡ ledger .funds .count
-    funds-count = ap length (l .funds) ∙ alike-length _ s (ledger .funds)
-
     pub periods-count : length (content s .periods) ≡ ledger .periods .count
     periods-count = ap length (l .periods) ∙ alike-length _ s (ledger .periods)
 
-    pub records-count : length (content s .records) ≡ ledger .records .count
-    records-count = ap length (l .records) ∙ alike-length _ s (ledger .records)
-
     pub periods-most : ledger .periods .count ≤ 240
     periods-most = rw periods-count at (content-limits s (p .accepted) .periods)
-
-    pub records-most : ledger .records .count ≤ 2000
-    records-most = rw records-count at (content-limits s (p .accepted) .records)
 
     pub records-in-range : Every (PeriodRecordInRange (ledger .periods .count) (plan .activities .count)) (content s .records)
     records-in-range = rw (← periods-count, ← activities-count) (content-in-range s (p .accepted) .records)

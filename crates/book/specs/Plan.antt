@@ -1,10 +1,7 @@
 -- The plan of an accepted book: the content's lists are what stands at its places.
-use Prim.Native.Nat.{ℕ, _≤_, _<_}
+use Prim.Native.Nat.{ℕ}
 use mathlib.Core.Path.{_≡_}
 use mathlib.Core.List.{List, [], _∷_}
-use lib.ListN.{length, getD}
-use lib.Seq.{sets}
-use Rattle.format.specs.declared.Pos.the-variants.{At}
 use Rattle.format.specs.Field.{D}
 use Rattle.format.specs.Codec.{Codec, field}
 use Rattle.format.specs.Book.{Budget}
@@ -18,14 +15,10 @@ use Rattle.book.specs.declared.layout.Baseline.{Baseline}
 use Rattle.book.specs.declared.layout.Ledger.{Ledger}
 use Rattle.book.specs.Sections.{elements, alikeIn}
 use Rattle.book.specs.Layout.{linesOf}
-use Rattle.book.specs.Places.{placesIn}
 
--- xs are the elements of a list of the book, and each of them is what is read at its place; `t`: what an index held before it was filled
+-- xs are the elements of a list of the book
 pub record Placed {A : Type 0} (c : Codec A) (s : List ℕ) (l : Section) (xs : List A) : Type 0 where
   pub listed : xs ≡ alikeIn c s l
-  pub at :
-      (t : List ℕ) (k : ℕ) (d : A) → l .count ≤ length t → k < l .count →
-      getD xs k d ≡ c .read s (At (getD (sets t 0 (placesIn c s l)) k 0)) .0
 
 -- s is an accepted book, with this data date and this plan
 pub record IsPlanOf (s : List ℕ) (date : OptionalNumber) (plan : Plan) : Type 0 where

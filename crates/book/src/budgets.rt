@@ -4,6 +4,7 @@ use fields::OptionalNumber;
 use fields::kinds::amount;
 use fields::kinds::field;
 use fields::kinds::optional_index;
+use format::COUNT_OUT_OF_RANGE;
 use format::Pos;
 use records::budgets::read_budget_head;
 ghost use mathlib.Core.Path.{_≡_};
@@ -29,7 +30,7 @@ pub fn read_amounts(book: &[u8], at: Pos, most: u64) -> Section
     requires { ⌜ most < 1000 ⌝ }
     ensures { λ r. ⌜ IsAlike 0 most layout.amount (now (book .entry)) at r ⌝ }
 {
-    let lead = field(book, at, 0, most + 1, 5);
+    let lead = field(book, at, 0, most + 1, COUNT_OUT_OF_RANGE);
     let first = lead.next;
     let count = lead.value;
     let mut next = first;
@@ -74,7 +75,7 @@ pub fn read_budgets(book: &[u8], at: Pos, activities: u64) -> Section
     requires { ⌜ activities ≤ 500 ⌝ }
     ensures { λ r. ⌜ IsList 0 501 (layout.budget activities) (λ before b. b .activity ∷ before) [] (now (book .entry)) at r ⌝ }
 {
-    let lead = field(book, at, 0, 502, 5);
+    let lead = field(book, at, 0, 502, COUNT_OUT_OF_RANGE);
     let first = lead.next;
     let count = lead.value;
     let mut marks = [0u64; 501];

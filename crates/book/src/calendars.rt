@@ -2,6 +2,7 @@
 use crate::Section;
 use fields::kinds::field;
 use fields::kinds::rising;
+use format::COUNT_OUT_OF_RANGE;
 use format::Pos;
 use format::Region;
 use records::calendars::read_calendar_head;
@@ -24,7 +25,7 @@ pub struct Calendar {
 fn read_days(book: &[u8], at: Pos) -> Section
     ensures { λ r. ⌜ IsList 0 366 layout.rising (λ before day. day) 0 (now (book .entry)) at r ⌝ }
 {
-    let lead = field(book, at, 0, 367, 5);
+    let lead = field(book, at, 0, 367, COUNT_OUT_OF_RANGE);
     let first = lead.next;
     let count = lead.value;
     let mut next = first;
@@ -43,7 +44,7 @@ fn read_days(book: &[u8], at: Pos) -> Section
 fn read_exceptions(book: &[u8], at: Pos) -> Section
     ensures { λ r. ⌜ IsList 0 366 layout.exception (λ before e. e .day) 0 (now (book .entry)) at r ⌝ }
 {
-    let lead = field(book, at, 0, 367, 5);
+    let lead = field(book, at, 0, 367, COUNT_OUT_OF_RANGE);
     let first = lead.next;
     let count = lead.value;
     let mut next = first;

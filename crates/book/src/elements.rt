@@ -4,6 +4,7 @@ use crate::calendars::read_calendar;
 use crate::resources::read_resource;
 use fields::kinds::date;
 use fields::kinds::field;
+use format::COUNT_OUT_OF_RANGE;
 use format::Pos;
 use records::budgets::read_budget_change;
 use records::skips::skip_activity;
@@ -87,7 +88,7 @@ pub fn read_elements(book: &[u8], at: Pos, element: Element, low: u64, most: u64
     requires { ⌜ most < 10000 ⌝ }
     ensures { λ r. ⌜ IsAlike low most (codecOf element) (now (book .entry)) at r ⌝ }
 {
-    let lead = field(book, at, low, most + 1, 5);
+    let lead = field(book, at, low, most + 1, COUNT_OUT_OF_RANGE);
     let first = lead.next;
     let next = skip_all(book, first, element, lead.value);
     Section {
@@ -101,7 +102,7 @@ pub fn read_elements(book: &[u8], at: Pos, element: Element, low: u64, most: u64
 pub fn read_activities(book: &[u8], at: Pos, calendars: u64) -> Section
     ensures { λ r. ⌜ IsAlike 0 500 (layout.activity calendars (r .count)) (now (book .entry)) at r ⌝ }
 {
-    let lead = field(book, at, 0, 501, 5);
+    let lead = field(book, at, 0, 501, COUNT_OUT_OF_RANGE);
     let first = lead.next;
     let element = Element::Activity {
         calendars,

@@ -10,8 +10,11 @@ use fields::enumerations::forecast_of;
 use fields::kinds::field;
 use fields::kinds::optional_date;
 use format::Answer;
+use format::BOOK_TOO_LONG;
+use format::BYTES_LEFT;
 use format::EtcTechnique;
 use format::EvTechnique;
+use format::OUT_OF_RANGE;
 use format::Pos;
 use records::techniques::read_technique;
 ghost use mathlib.Core.Path.{_≡_};
@@ -68,13 +71,13 @@ pub struct Layout {
 fn read_header(book: &[u8], at: Pos) -> Header
     ensures { λ r. ⌜ IsHeader (now (book .entry)) at r ⌝ }
 {
-    let edition = field(book, at, 1, 2, 4);
+    let edition = field(book, at, 1, 2, OUT_OF_RANGE);
     let at1 = edition.next;
     let date = optional_date(book, at1);
     let at2 = date.next;
     let technique = read_technique(book, at2);
     let at3 = technique.next;
-    let forecast = field(book, at3, 0, 4, 4);
+    let forecast = field(book, at3, 0, 4, OUT_OF_RANGE);
     let next = forecast.next;
     let date = date.value;
     let technique = technique.value;
@@ -121,7 +124,7 @@ fn read_plan(book: &[u8], at: Pos) -> Plan
 fn read_baseline(book: &[u8], at: Pos, activities: u64) -> Baseline
     ensures { λ r. ⌜ IsBaseline (now (book .entry)) activities at r ⌝ }
 {
-    let mark = field(book, at, 0, 2, 4);
+    let mark = field(book, at, 0, 2, OUT_OF_RANGE);
     let at1 = mark.next;
     if mark.value == 1 {
         let line = Element::BaselineLine { activities };
@@ -181,7 +184,7 @@ fn begin(book: &[u8]) -> Pos
     ensures { λ r. ⌜ r ≡ verdict.begin (now (book .entry)) ⌝ }
 {
     if 60000 < book.len() {
-        return Pos::Refused(1, 0);
+        return Pos::Refused(BOOK_TOO_LONG, 0);
     }
     Pos::At(0)
 }
@@ -193,7 +196,7 @@ fn end(book: &[u8], at: Pos) -> Pos
     match at {
         Pos::At(i) => {
             if i < book.len() {
-                return Pos::Refused(7, i);
+                return Pos::Refused(BYTES_LEFT, i);
             }
             Pos::At(i)
         }

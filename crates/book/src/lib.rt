@@ -5,8 +5,6 @@ pub mod budgets;
 pub mod calendars;
 pub mod elements;
 pub mod layout;
-pub mod leaves;
-pub mod places;
 pub mod resources;
 
 // A list: the count that leads it, where its first element begins, and where reading goes on after its last.

@@ -1,6 +1,7 @@
 // Resources, and their prices.
 use crate::Section;
 use fields::kinds::field;
+use format::COUNT_OUT_OF_RANGE;
 use format::Pos;
 use format::ResourceKind;
 use records::resources::read_price;
@@ -20,7 +21,7 @@ pub struct Resource {
 fn read_prices(book: &[u8], at: Pos) -> Section
     ensures { λ r. ⌜ IsAlike 0 40 layout.price (now (book .entry)) at r ⌝ }
 {
-    let lead = field(book, at, 0, 41, 5);
+    let lead = field(book, at, 0, 41, COUNT_OUT_OF_RANGE);
     let first = lead.next;
     let count = lead.value;
     let mut next = first;

@@ -23,11 +23,11 @@ use Rattle.dates.specs.declared.Day.the-variants.{At, Nothing}
 use Rattle.dates.specs.declared.Date.the-variants.{Of}
 use Rattle.dates.specs.Date.{ymdOf}
 use Rattle.dates.proofs.Counts.{epoch-is, is-day}
-use Rattle.holidays.specs.Holiday.{any, same, isHoliday}
+use Rattle.holidays.specs.Holiday.{same, isHoliday}
+use Rattle.lists.specs.Lists.{any, span}
 use Rattle.holidays.specs.Year.{holidaysIn}
-use Rattle.holidays.proofs.Search.{any-left, any-right, any-either}
+use Rattle.lists.proofs.Search.{any-left, any-right, any-either}
 use Rattle.holidays.proofs.Years.{self, equal, falls, listed, is-holiday}
-use Rattle.model.specs.Lists.{span}
 use Rattle.calendar.specs.Tables.{entry, one, Shows, marked, freed}
 use Rattle.calendar.proofs.Overlays.{length-marked, marked-is}
 

@@ -9,7 +9,7 @@ use borrow.Author.Tests.{le-leb, leb-true, eqb-true, eqb-false, ne-eqb}
 use lib.Dec.{eqb, leb}
 use lib.ListN.{length, getD, set, length-set}
 use lib.Seq.{getD-set-same, getD-set-other}
-use Rattle.holidays.specs.Holiday.{any}
+use Rattle.lists.specs.Lists.{any}
 use Rattle.format.specs.declared.Pos.{Pos}
 use Rattle.format.specs.Reader.{many}
 use Rattle.format.specs.Codec.{Codec, times}

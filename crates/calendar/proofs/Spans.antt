@@ -1,6 +1,6 @@
 -- Counts of the dates of a span that pass a test, and tables of them.
 use Prim.Native.Nat.{ℕ, zero, suc, _+_, _-_, _≤_, _<_}
-use mathlib.Core.Path.{_≡_, refl, sym, ap, ap₂, _∙_}
+use mathlib.Core.Path.{_≡_, refl, sym, ap, _∙_}
 use mathlib.Core.Bool.{Bool, true, false}
 use mathlib.Core.List.{List, []}
 use native.Mathlib.Omega.{arith}
@@ -9,7 +9,9 @@ use lib.Dec.{eqb, ltb}
 use lib.ListN.{length, set}
 use lib.Seq.{getD-set-same, getD-set-other}
 use Rattle.format.specs.Book.{Calendar}
-use Rattle.model.specs.Lists.{span, consIf, keep}
+use Rattle.lists.specs.Lists.{span, consIf, keep}
+use Rattle.lists.proofs.Spans.{span-in}
+use Rattle.lists.proofs.Lists.{keep-alike}
 use Rattle.model.specs.Calendar.{isWorking}
 use Rattle.model.specs.Days.{datesBetween, workingDays}
 use Rattle.calendar.specs.Tables.{entry, one, works, Shows, Counts, steps, Rises}
@@ -67,10 +69,7 @@ module _ (p : ℕ → Bool) where
       omega (arith, kept-next from n, goes-up base table from n (λ d a b. h d a (omega arith)), h (from + n) (omega arith) (omega arith), ap (entry base table) e)
 
 keep-same : (p q : ℕ → Bool) (a n : ℕ) → ((d : ℕ) → a ≤ d → d < a + n → p d ≡ q d) → keep p (span a n) ≡ keep q (span a n)
-unfolding keep span
-keep-same p q a zero h = refl
-keep-same p q a (suc n) h =
-    ap₂ (λ (b : Bool) (l : List ℕ). consIf b a l) (h a (omega arith) (omega arith)) (keep-same p q (suc a) n (λ d k l. h d (omega arith) (omega arith)))
+keep-same p q a n h = keep-alike p q (span a n) (λ d m. let i = span-in a n d m in h d (i .0) (i .1))
 
 -- ---- a table of counts, and what is counted
 

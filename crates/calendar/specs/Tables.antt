@@ -11,7 +11,7 @@ use Rattle.format.specs.Book.{Calendar}
 use Rattle.dates.specs.declared.Day.{Day}
 use Rattle.dates.specs.declared.Day.the-variants.{At, Nothing}
 use Rattle.dates.specs.Date.{weekdayOf}
-use Rattle.model.specs.Lists.{span, keep}
+use Rattle.lists.specs.Lists.{span, keep}
 use Rattle.model.specs.Calendar.{isRegionHoliday, worksOn, isWorking}
 
 -- the week, where no holiday of the region falls on the date

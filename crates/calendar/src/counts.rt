@@ -6,7 +6,7 @@ ghost use Prim.Native.Nat.{_+_, _-_, _≤_, _<_};
 ghost use lib.ListN.{length};
 ghost use Rattle.format.specs.InRange.{CalendarInRange};
 ghost use Rattle.book.specs.Sections.{calendarOf};
-ghost use Rattle.model.specs.Lists.{keep};
+ghost use Rattle.lists.specs.Lists.{keep};
 ghost use Rattle.model.specs.Calendar.{isWorking};
 ghost use Rattle.model.specs.Days.{datesBetween};
 ghost use Rattle.calendar.specs.Tables.{one, works, steps, Counts, Rises};

@@ -11,6 +11,8 @@ use crate::numbers::mark_at;
 use crate::numbers::number;
 use crate::numbers::short;
 use format::Num;
+use format::OUT_OF_ORDER;
+use format::OUT_OF_RANGE;
 use format::Pos;
 ghost use mathlib.Core.Path.{_≡_};
 ghost use mathlib.Core.Bool.{true};
@@ -130,7 +132,7 @@ pub fn ranged(book: &[u8], at: Pos, place: usize, low: u64, bound: u64, code: u6
     }
 }
 
-// The same, refused at its own place: a U, or with `code` 5 the count of a list.
+// The same, refused at its own place: a U, or with COUNT_OUT_OF_RANGE the count of a list.
 pub fn field(book: &[u8], at: Pos, low: u64, bound: u64, code: u64) -> Field
     ensures { λ r. ⌜ (r .value, r .next) ≡ codec.field (kind.range low bound code) .read (now (book .entry)) at ⌝ }
 {
@@ -143,7 +145,7 @@ fn optional(book: &[u8], at: usize, low: u64, bound: u64) -> OptionalField
     ensures { λ r. ⌜ (numberOption (r .value), r .next) ≡ O (kind.range low bound 4) .read (now (book .entry)) (At at) ⌝ }
 {
     let start = Pos::At(at);
-    let mark = field(book, start, 0, 2, 4);
+    let mark = field(book, start, 0, 2, OUT_OF_RANGE);
     let next = mark.next;
     if mark.value == 0 {
         return OptionalField {
@@ -152,7 +154,7 @@ fn optional(book: &[u8], at: usize, low: u64, bound: u64) -> OptionalField
         };
     }
     let mark_place = place(start);
-    let value = ranged(book, next, mark_place, low, bound, 4);
+    let value = ranged(book, next, mark_place, low, bound, OUT_OF_RANGE);
     let end = value.next;
     OptionalField {
         value: OptionalNumber::Present(value.value),
@@ -182,7 +184,7 @@ pub fn amount(book: &[u8], at: Pos) -> Amount
 pub fn optional_amount(book: &[u8], at: Pos) -> OptionalAmountField
     ensures { λ r. ⌜ (amountOption (r .value), r .next) ≡ O S .read (now (book .entry)) at ⌝ }
 {
-    let mark = field(book, at, 0, 2, 4);
+    let mark = field(book, at, 0, 2, OUT_OF_RANGE);
     let next = mark.next;
     if mark.value == 0 {
         return OptionalAmountField {
@@ -202,7 +204,7 @@ pub fn optional_amount(book: &[u8], at: Pos) -> OptionalAmountField
 pub fn date(book: &[u8], at: Pos) -> Field
     ensures { λ r. ⌜ (r .value, r .next) ≡ codec.field D .read (now (book .entry)) at ⌝ }
 {
-    field(book, at, 10957, 47482, 4)
+    field(book, at, 10957, 47482, OUT_OF_RANGE)
 }
 
 // O D: a date that may be absent.
@@ -240,7 +242,7 @@ pub fn optional_date(book: &[u8], at: Pos) -> OptionalField
 pub fn index(book: &[u8], at: Pos, named: u64) -> Field
     ensures { λ r. ⌜ (r .value, r .next) ≡ codec.field (kind.index named) .read (now (book .entry)) at ⌝ }
 {
-    field(book, at, 0, named, 4)
+    field(book, at, 0, named, OUT_OF_RANGE)
 }
 
 // O index: an index that may be absent.
@@ -278,7 +280,7 @@ pub fn optional_index(book: &[u8], at: Pos, named: u64) -> OptionalField
 pub fn minutes(book: &[u8], at: Pos) -> Field
     ensures { λ r. ⌜ (r .value, r .next) ≡ codec.field kind.minutes .read (now (book .entry)) at ⌝ }
 {
-    field(book, at, 0, 1000000001, 4)
+    field(book, at, 0, 1000000001, OUT_OF_RANGE)
 }
 
 // The date d, read at `place`, where it is above the one before it; else refusal 6.
@@ -293,7 +295,7 @@ fn above(d: Field, before: u64, place: usize) -> Field
             }
             Field {
                 value: 0,
-                next: Pos::Refused(6, place),
+                next: Pos::Refused(OUT_OF_ORDER, place),
             }
         }
         Pos::Refused(_, _) => d,

@@ -1,4 +1,6 @@
 // Numbers: groups of seven bits, lowest group first.
+use format::ENDS_EARLY;
+use format::NOT_SHORTEST;
 use format::Num;
 ghost use mathlib.Core.Path.{_≡_};
 ghost use Prim.Native.Nat.{_+_, _-_, _<_};
@@ -33,7 +35,7 @@ pub fn number(book: &[u8], place: usize) -> Num
     ensures { λ r. ⌜ r ≡ numberAt (now (book .entry)) place ⌝ }
 {
     if book.len() <= place {
-        return Num::Refused(2, book.len());
+        return Num::Refused(ENDS_EARLY, book.len());
     }
     let first = wide(book[place]);
     if first < 128 {
@@ -45,12 +47,12 @@ pub fn number(book: &[u8], place: usize) -> Num
     let mut sum = first - 128;
     while 1 < left {
         if book.len() <= at {
-            return Num::Refused(2, book.len());
+            return Num::Refused(ENDS_EARLY, book.len());
         }
         let b = wide(book[at]);
         if b < 128 {
             if b == 0 {
-                return Num::Refused(3, place);
+                return Num::Refused(NOT_SHORTEST, place);
             }
             return Num::Value(sum + scale * b, at + 1);
         }
@@ -60,13 +62,13 @@ pub fn number(book: &[u8], place: usize) -> Num
         left = left - 1;
     }
     if book.len() <= at {
-        return Num::Refused(2, book.len());
+        return Num::Refused(ENDS_EARLY, book.len());
     }
     let tenth = wide(book[at]);
     if tenth == 1 {
         return Num::Value(sum + scale, at + 1);
     }
-    Num::Refused(3, place)
+    Num::Refused(NOT_SHORTEST, place)
 }
 
 // Below it, at least four bytes begin at every place.

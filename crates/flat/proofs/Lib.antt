@@ -3,3 +3,4 @@ pub mod Tables
 pub mod Sets
 pub mod Written
 pub mod Mapped
+pub mod Spans

@@ -3,8 +3,8 @@ use Prim.Native.Nat.{ℕ, zero, suc, _+_, _*_, _<_}
 use native.Mathlib.Omega.{arith}
 use mathlib.Core.Path.{_≡_, refl, sym, ap, ap₂, _∙_}
 use mathlib.Core.List.{List, [], _∷_, _++_, map, flatMap, append-assoc, map-append, List·Memᴰ, List·Memᴰ·head, List·Memᴰ·tail}
-use lib.ListN.{length, getD, take, drop, length-append, List·getD-append}
-use lib.Seq.{getD-append-add, take-append-add, drop-append-add, take-at, drop-cons}
+use lib.ListN.{length, getD, drop, length-append, List·getD-append}
+use lib.Seq.{getD-append-add, drop-append-add}
 use Rattle.flat.proofs.Cells.{same-cells}
 
 -- ---- rows of any width
@@ -74,23 +74,3 @@ module _ {A B : Type 0} (width : ℕ) (row : A → List B) (wide : (x : A) → l
   flat-drop (x ∷ xs) (suc i) =
       let z : suc i * width ≡ length (row x) + i * width = omega (arith, wide x) in
       rw z (drop-append-add (row x) (flatMap row xs) (i * width) ∙ flat-drop xs i)
-
-  pub flat-take : (xs : List A) (i : ℕ) → take (i * width) (flatMap row xs) ≡ flatMap row (take i xs)
-  unfolding flatMap
-  flat-take [] zero = let z : 0 * width ≡ 0 = omega arith in rw z
-  flat-take [] (suc i) = none (suc i * width)
-    where
-      none : (k : ℕ) → _≡_ {A = List B} (take k []) []
-      none zero = refl
-      none (suc k) = refl
-  flat-take (x ∷ xs) zero = let z : 0 * width ≡ 0 = omega arith in rw z
-  flat-take (x ∷ xs) (suc i) =
-      let z : suc i * width ≡ length (row x) + i * width = omega (arith, wide x) in
-      rw z (take-append-add (row x) (flatMap row xs) (i * width) ∙ ap (λ (l : List B). row x ++ l) (flat-take xs i))
-
-  -- row i
-  pub flat-row : (xs : List A) (i : ℕ) (e : A) → i < length xs → take width (drop (i * width) (flatMap row xs)) ≡ row (getD xs i e)
-  unfolding flatMap
-  flat-row xs i e h =
-      rw flat-drop
-      (ap (λ (l : List A). take width (flatMap row l)) (drop-cons xs i e h) ∙ take-at (row (getD xs i e)) (flatMap row (drop (suc i) xs)) width (wide (getD xs i e)))

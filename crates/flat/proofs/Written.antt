@@ -2,7 +2,7 @@
 use Prim.Native.Nat.{ℕ, suc, _+_, _*_, _≤_, _<_}
 use native.Mathlib.Numerals.{add-one}
 use native.Mathlib.Omega.{arith}
-use mathlib.Core.Path.{_≡_, refl, sym, ap, _∙_}
+use mathlib.Core.Path.{_≡_, sym, ap, _∙_}
 use mathlib.Core.List.{List, [], _∷_, flatMap}
 use lib.ListN.{length, getD, drop, drop-of-length-le}
 use lib.Seq.{sets, length-sets, drop-cons}
@@ -21,10 +21,6 @@ module _ {A B : Type 0} (width : ℕ) (row : A → List B) (xs : List A) where
   -- nothing is written, and all that is lent will be
   pub writing-none : ((x : A) → length (row x) ≡ width) → (out : List B) → length out ≡ length xs * width → Writing width row (flatMap row xs) xs 0 out
   writing-none wide out e = record { room = omega arith; left = sets-whole (flatMap row xs) out (flat-length width row wide xs ∙ sym e) }
-
-  -- from `at` on: what stands before it stays
-  pub writing-from : (at : ℕ) (out : List B) → length out ≡ at + length xs * width → Writing width row (sets out at (flatMap row xs)) xs at out
-  writing-from at out e = record { room = e; left = refl }
 
 module _ {A B : Type 0} {width : ℕ} {row : A → List B} {all : List B} {rest : List A} {at : ℕ} {out : List B} (w : Writing width row all rest at out) where
   pub writing-length : length out ≡ length all

@@ -5,3 +5,4 @@ pub mod InRange
 pub mod WellFormed
 pub mod Theorems
 pub mod Example
+pub mod Every

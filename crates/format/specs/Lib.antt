@@ -8,7 +8,6 @@ pub mod Within
 pub mod Signed
 pub mod Field
 pub mod Codec
-pub mod Records
 pub mod Enumeration
 pub mod Book
 pub mod Format

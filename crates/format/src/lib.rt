@@ -12,6 +12,22 @@ pub enum Num {
     Refused(u64, usize),
 }
 
+// The refusals of a book: it is over 60,000 bytes; it ends where a byte is still due; a number is not in its shortest form, or is too large;
+// a value or an index is out of range; a count is; dates do not rise, or a budget is named twice; there are bytes after the last section.
+pub const BOOK_TOO_LONG: u64 = 1;
+
+pub const ENDS_EARLY: u64 = 2;
+
+pub const NOT_SHORTEST: u64 = 3;
+
+pub const OUT_OF_RANGE: u64 = 4;
+
+pub const COUNT_OUT_OF_RANGE: u64 = 5;
+
+pub const OUT_OF_ORDER: u64 = 6;
+
+pub const BYTES_LEFT: u64 = 7;
+
 // What is answered to a book: accepted, or the refusal, its number and its place.
 pub enum Answer {
     Accepted,

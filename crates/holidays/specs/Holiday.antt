@@ -6,6 +6,7 @@ use mathlib.Core.List.{List, [], _∷_}
 use lib.Dec.{eqb}
 use lib.IntN.{ℤ, pos, negℤ, _-ℤ_}
 use lib.Signed.{leZ}
+use Rattle.lists.specs.Lists.{any}
 use Rattle.dates.specs.declared.Day.{Day}
 use Rattle.dates.specs.declared.Day.the-variants.{At, Nothing as no-day}
 use Rattle.dates.specs.declared.Date.{Date}
@@ -13,11 +14,6 @@ use Rattle.dates.specs.declared.Date.the-variants.{Of, Nothing as no-date}
 use Rattle.dates.specs.Date.{ymdOf}
 use Rattle.holidays.specs.declared.MonthDay.{MonthDay}
 use Rattle.holidays.specs.Easter.{easterOf}
-
--- Some element passes the test.
-unfoldable pub any : {A : Type 0} → (A → Bool) → List A → Bool
-any p [] = false
-any p (x ∷ xs) = p x || any p xs
 
 -- ---- the fixed days
 

@@ -17,9 +17,8 @@ use Rattle.format.specs.declared.Region.the-variants.{None}
 use Rattle.format.specs.Enumeration.{changeStatusNumber}
 use Rattle.format.specs.Book.{Calendar, Activity, BaselineLine, Budget, BudgetChange, PeriodRecord, Book}
 use Rattle.format.specs.Format.{names}
-use Rattle.holidays.specs.Holiday.{any}
+use Rattle.lists.specs.Lists.{any, span, keep}
 use Rattle.model.specs.declared.Earned.{Earned}
-use Rattle.model.specs.Lists.{span, keep}
 use Rattle.model.specs.Calendar.{isWorking, exceptionOn, usuallyWorks, isRegionHoliday, worksOn}
 use Rattle.model.specs.Tree.{parents, isLeaf, steps, walk, stepsMade}
 use Rattle.model.specs.Forecast.{cpi, spi, toEarn, etc}

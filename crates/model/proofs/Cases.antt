@@ -27,10 +27,9 @@ use Rattle.format.specs.declared.Accrual.the-variants.{Uniform}
 use Rattle.format.specs.declared.Region.the-variants.{None}
 use Rattle.format.specs.Enumeration.{resourceKindNumber}
 use Rattle.format.specs.Book.{Exception, Calendar, Activity, Resource, Assignment, Expense, BaselineLine, Book}
-use Rattle.holidays.specs.Holiday.{any}
+use Rattle.lists.specs.Lists.{any, span, keep}
 use Rattle.model.specs.declared.Way.{Way}
 use Rattle.model.specs.declared.Way.the-variants.{Planned, Actual, Remaining}
-use Rattle.model.specs.Lists.{span, keep}
 use Rattle.model.specs.Calendar.{isWorking, exceptionOn, usuallyWorks, isRegionHoliday, worksOn, calendarOf}
 use Rattle.model.specs.Days.{datesBetween, dayList, plannedDays, daysSince, actualDays, remainingFrom, daysLeft, remainingDays, daysOf}
 use Rattle.model.specs.Amounts.{on, spreadOver, saturatedSum, isCharged, pointOn, pointsBetween}

@@ -16,12 +16,13 @@ use Rattle.integer.specs.Sums.{ints, nats, total, sum-mono, abs-plus}
 use Rattle.integer.specs.Folds.{saturated, magnitudes, exact}
 use Rattle.format.specs.Book.{Book}
 use Rattle.format.specs.InRange.{Rising}
-use Rattle.model.specs.Lists.{consIf, keep}
+use Rattle.lists.specs.Lists.{consIf, keep}
 use Rattle.model.specs.Days.{datesBetween}
 use Rattle.model.specs.Amounts.{Dated, on, amounts, saturatedSum, isDated, isBetween, isCharged, pointOn, pointsBetween, lastDay, points}
 use Rattle.model.specs.Planned.{isUpTo, plannedByDay, running, plannedCurve, plannedCurveBetween}
 use Rattle.model.specs.Demand.{lastFigure}
-use Rattle.model.proofs.Lists.{keep-in, keep-none, keep-same, keep-unless, keep-rises, map-kept, rest-rises, least}
+use Rattle.lists.proofs.Lists.{keep-in, keep-none, keep-same, keep-unless, map-kept}
+use Rattle.model.proofs.Rising.{keep-rises, rest-rises, least}
 use Rattle.model.proofs.Points.{point-dates, all-dates, points-within}
 use Rattle.model.proofs.Totals.{total-kept, total-by, total-span, magnitudes-total, abs-total, magnitudes-kept}
 

@@ -11,10 +11,12 @@ use lib.ListN.{length}
 use Rattle.gregorian.proofs.Laws.{and-both}
 use Rattle.format.specs.Book.{Calendar}
 use Rattle.format.specs.InRange.{Rising}
-use Rattle.model.specs.Lists.{span, consIf, keep}
+use Rattle.lists.specs.Lists.{span, consIf, keep}
 use Rattle.model.specs.Calendar.{isWorking}
 use Rattle.model.specs.Days.{datesBetween, workingDays, orAlone, dayList}
-use Rattle.model.proofs.Lists.{span-in, in-span, keep-in, in-keep, keep-keep, keep-rises, rising-same}
+use Rattle.lists.proofs.Spans.{span-in, in-span}
+use Rattle.lists.proofs.Lists.{keep-in, in-keep, keep-keep}
+use Rattle.model.proofs.Rising.{keep-rises, rising-same}
 
 -- dates that pass a test, between two dates
 module _ (p : ℕ → Bool) (from to : ℕ) where

@@ -18,13 +18,14 @@ use Rattle.format.specs.Book.{Activity, Book}
 use Rattle.format.specs.Verdict.{Accepted, content}
 use Rattle.format.specs.InRange.{InRange}
 use Rattle.format.proofs.Theorems.{content-in-range}
-use Rattle.model.specs.Lists.{keep}
+use Rattle.lists.specs.Lists.{keep}
 use Rattle.model.specs.Amounts.{Dated, spreadOver, amounts, isDated, isCharged}
 use Rattle.model.specs.Tree.{parents, indices, isLeaf, leaves, isBelow, below, leavesBelow, Ancestor}
 use Rattle.model.specs.Planned.{budgetOf, listedDays, plannedAmounts, isUpTo, plannedOn, plannedByDay, plannedCurve, plannedCurveBetween}
 use Rattle.model.specs.Earned.{noEarned, addEarned, leafEarned, ownEarned, projectEarned}
 use Rattle.model.specs.Demand.{Reading, distance, firstOf, lastOf, exactSum, lastFigure, Leaf, NoOwnAncestor, SmallBudgets, PlannedValue, definedAt, DefinedPlannedValue}
-use Rattle.model.proofs.Lists.{span-in, keep-in, any-some, flat-in, keep-swap, keep-flat, map-kept, map-same}
+use Rattle.lists.proofs.Spans.{span-in}
+use Rattle.lists.proofs.Lists.{keep-in, any-some, flat-in, keep-swap, keep-flat, map-kept, map-same}
 use Rattle.model.proofs.Tree.{in-leaves-below}
 use Rattle.model.proofs.Totals.{total-flat, total-kept, magnitudes-total, magnitudes-kept, magnitudes-less}
 use Rattle.model.proofs.Amounts.{dated-day}

@@ -11,12 +11,12 @@ use mir.Val.{SFits}
 use Rattle.format.specs.Book.{Book}
 use Rattle.format.specs.InRange.{InRange}
 use Rattle.model.specs.declared.Earned.{Earned}
-use Rattle.model.specs.Lists.{keep}
+use Rattle.lists.specs.Lists.{keep}
 use Rattle.model.specs.Amounts.{amounts, saturatedSum}
 use Rattle.model.specs.Tree.{parents, indices, isLeaf, leaves, NoCircle, below, brought, rollUp}
 use Rattle.model.specs.Planned.{plannedAmounts, isUpTo, plannedOn}
 use Rattle.model.specs.Earned.{noEarned, addEarned, leafEarned, ownEarned, earnedAt, projectEarned}
-use Rattle.model.proofs.Lists.{map-kept}
+use Rattle.lists.proofs.Lists.{map-kept}
 use Rattle.model.proofs.Tree.{roll-up, leaf-row}
 use Rattle.model.proofs.Figures.{FigureOf, added-fits}
 use Rattle.model.proofs.Saturating.{saturated-fits}

@@ -7,7 +7,7 @@ use lib.Ieee.{ofInt, mul, div, lt}
 use lib.IntN.{pos}
 use lib.ListN.{getD}
 use Rattle.integer.specs.Folds.{saturated}
-use Rattle.holidays.specs.Holiday.{any}
+use Rattle.lists.specs.Lists.{any, span, keep}
 use Rattle.money.specs.declared.costs.Cost.{Cost}
 use Rattle.money.specs.Scale.{inRange, scaledBy}
 use Rattle.money.specs.Shares.{shareOf, sharesFrom}
@@ -15,7 +15,6 @@ use Rattle.floats.specs.Rounding.{rounded, wholeOf}
 use Rattle.format.specs.Book.{Calendar}
 use Rattle.format.proofs.Example.{example}
 use Rattle.model.specs.declared.Earned.{Earned}
-use Rattle.model.specs.Lists.{span, keep}
 use Rattle.model.specs.Lookup.{calendarAt}
 use Rattle.model.specs.Calendar.{isWorking, exceptionOn, usuallyWorks, isRegionHoliday, worksOn, calendarOf}
 use Rattle.model.specs.Days.{datesBetween, workingDays, dayList, plannedDays, daysSince, actualDays, remainingFrom, daysLeft, remainingDays, daysOf}

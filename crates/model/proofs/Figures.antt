@@ -1,11 +1,13 @@
 -- One figure of rows that are added figure by figure, each with saturation: its saturating sum, in 64 bits; short of saturation the exact one.
 use mathlib.Core.Path.{_≡_, refl, sym, ap, _∙_}
+use mathlib.Core.Bool.{Bool, true, false, cond}
 use mathlib.Core.List.{List, [], _∷_, map, foldl}
 use Prim.Native.Nat.{_≤_}
 use native.Mathlib.Omega.{arith}
 use lib.IntN.{ℤ, _+ℤ_, +ℤ-idl}
 use mir.Syntax.{w64}
 use mir.Val.{SFits}
+use Rattle.lists.specs.Lists.{consIf, keep}
 use Rattle.integer.specs.Clamp.{most, clamp, clamp-small}
 use Rattle.integer.specs.Sums.{ints, total}
 use Rattle.integer.specs.Folds.{saturated, magnitudes, exact}
@@ -30,3 +32,14 @@ module _ {Row : Type 0} (add : Row → Row → Row) where
         added-saturated a rows
         ∙ ap (λ (s : ℤ). saturated w64 s (map f rows)) (sym (ap (clamp w64) (+ℤ-idl (f a)) ∙ clamp-small w64 (f a) (omega arith)))
         ∙ exact w64 (map f (a ∷ rows)) h
+
+module _ {A : Type 0} where
+  -- what is added only where a test holds is added for those that pass it
+  pub saturated-kept : (p : A → Bool) (f : A → ℤ) (s : ℤ) (xs : List A) → foldl (λ (t : ℤ) (x : A). cond (p x) (clamp w64 (t +ℤ f x)) t) s xs ≡ saturated w64 s (map f (keep p xs))
+  unfolding saturated keep
+  saturated-kept p f s [] = refl
+  saturated-kept p f s (x ∷ xs) = saturated-kept p f (cond (p x) (clamp w64 (s +ℤ f x)) s) xs ∙ go (p x)
+    where
+      go : (b : Bool) → saturated w64 (cond b (clamp w64 (s +ℤ f x)) s) (map f (keep p xs)) ≡ saturated w64 s (map f (consIf b x (keep p xs)))
+      go true = refl
+      go false = refl

@@ -1,7 +1,7 @@
 -- Forecasts: the standards' sums are exact short of saturation.
 use Prim.Native.Nat.{_≤_}
 use mathlib.Core.Path.{_≡_}
-use lib.IntN.{ℤ, natAbs, _+ℤ_, _-ℤ_}
+use lib.IntN.{natAbs, _+ℤ_, _-ℤ_}
 use mir.Syntax.{w64}
 use Rattle.integer.specs.Clamp.{clamp-small, most}
 use Rattle.format.specs.declared.EtcTechnique.{EtcTechnique}

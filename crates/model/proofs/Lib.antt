@@ -1,4 +1,4 @@
-pub mod Lists
+pub mod Rising
 pub mod Calendar
 pub mod Days
 pub mod Pigeonhole

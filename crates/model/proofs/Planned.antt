@@ -21,7 +21,7 @@ use Rattle.money.proofs.Spread.{extra, part, parts, parts-next, parts-all, part
 use Rattle.format.specs.Inverse.{Given}
 use Rattle.format.specs.Book.{Calendar, BaselineLine, Book}
 use Rattle.format.specs.InRange.{IsDate, Every, Rising, BaselineLineInRange, BaselineInRange, InRange}
-use Rattle.model.specs.Lists.{span, consIf, keep}
+use Rattle.lists.specs.Lists.{span, consIf, keep}
 use Rattle.model.specs.Lookup.{activityAt, noActivity}
 use Rattle.model.specs.Calendar.{calendarOf}
 use Rattle.model.specs.Days.{workingDays, dayList, plannedDays}
@@ -29,7 +29,8 @@ use Rattle.model.specs.Amounts.{on, dated, spreadOver, amounts, saturate
 use Rattle.model.specs.Costs.{costOf}
 use Rattle.model.specs.Planned.{firstLine, lineOf, budgetBy, budgetOf, daysBy, listedDays, plannedAmounts, isUpTo, plannedOn}
 use Rattle.model.specs.Demand.{firstOf, lastOf}
-use Rattle.model.proofs.Lists.{keep-none, keep-all, keep-length, keep-fewer, first-at, rest-rises, least}
+use Rattle.lists.proofs.Lists.{keep-none, keep-all, keep-length, keep-fewer, first-at}
+use Rattle.model.proofs.Rising.{rest-rises, least}
 use Rattle.model.proofs.Days.{working-up-to, day-list-counted, day-list-empty, day-list-some, day-list-rises, day-list-within}
 use Rattle.model.proofs.Totals.{total-span, magnitudes-total}
 use Rattle.model.proofs.Saturating.{clamp-same, saturated-shares}

@@ -8,13 +8,13 @@ use native.Mathlib.Omega.{arith}
 use borrow.Author.Tests.{eqb-true, leb-true, le-leb}
 use lib.Dec.{eqb, leb}
 use Rattle.gregorian.proofs.Laws.{and-both}
-use Rattle.holidays.specs.Holiday.{any}
+use Rattle.lists.specs.Lists.{any, span, keep}
 use Rattle.format.specs.Book.{Book}
-use Rattle.model.specs.Lists.{span, keep}
 use Rattle.model.specs.Days.{datesBetween}
 use Rattle.model.specs.Amounts.{Dated, isBetween, isCharged, pointOn, pointsBetween, lastDay, points}
 use Rattle.model.specs.Costs.{budgetByDay, spending, spendingBetween}
-use Rattle.model.proofs.Lists.{keep-map, keep-keep, keep-rises, rising-same}
+use Rattle.lists.proofs.Lists.{keep-map, keep-keep}
+use Rattle.model.proofs.Rising.{keep-rises, rising-same}
 use Rattle.model.proofs.Days.{kept-between, between-kept}
 
 -- nothing falls after the last day

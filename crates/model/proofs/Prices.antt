@@ -9,10 +9,9 @@ use native.Mathlib.Omega.{arith}
 use borrow.Author.Tests.{leb-true, leb-false, le-leb}
 use lib.IntN.{ℤ, pos}
 use Rattle.format.specs.Book.{Price}
-use Rattle.holidays.specs.Holiday.{any}
-use Rattle.model.specs.Lists.{consIf, keep}
+use Rattle.lists.specs.Lists.{any, consIf, keep}
 use Rattle.model.specs.Costs.{noLater, inEffect, later, priceAmong, priceOn}
-use Rattle.model.proofs.Lists.{in-any, keep-in, keep-none, keep-append}
+use Rattle.lists.proofs.Lists.{in-any, keep-in, keep-none, keep-append}
 
 -- a price of the list that is in effect on the day: of those listed before it none is later, and all those listed after it are earlier
 pub record Latest (day : ℕ) (prices : List Price) : Type 0 where

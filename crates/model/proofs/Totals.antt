@@ -8,7 +8,7 @@ use lib.Dec.{eqb, ltb}
 use lib.IntN.{ℤ, natAbs}
 use Rattle.integer.specs.Sums.{Adds, ints, nats, sum, total, only, sum-cong, sum-none, sum-both, sum-hot, abs-plus}
 use Rattle.integer.specs.Folds.{magnitudes}
-use Rattle.model.specs.Lists.{span, consIf, keep}
+use Rattle.lists.specs.Lists.{span, consIf, keep}
 
 module _ {A : Type 0} (m : Adds A) where
   assoc : (a b c : A) → m .op (m .op a b) c ≡ m .op a (m .op b c)

@@ -9,13 +9,19 @@ use native.Mathlib.Omega.{arith}
 use native.Mathlib.Decide.{decLt}
 use borrow.Author.Tests.{eqb-true, eqb-false, eq-eqb, ne-eqb}
 use lib.Dec.{eqb}
-use lib.ListN.{length, getD, take, length-take, List·getD-eq-default}
+use lib.ListN.{length, getD, take, length-map, length-take, List·getD-eq-default}
 use lib.Seq.{getD-take}
-use Rattle.holidays.specs.Holiday.{any}
-use Rattle.model.specs.Lists.{consIf, keep}
-use Rattle.model.specs.Tree.{Parents, parentOf, indices, names, isLeaf, Ancestor, NoCircle, steps, walk, stepLimit, walkUp, isBelow, below, leavesBelow, brought, rollUp}
-use Rattle.model.proofs.Lists.{in-span, keep-in, in-keep, keep-none, take-in, any-in, in-any, FirstAt, first-at, at-in}
+use Rattle.lists.specs.Lists.{any, consIf, keep}
+use Rattle.format.specs.Book.{Book, Activity}
+use Rattle.model.specs.Tree.{Parents, parents, parentOf, indices, names, isLeaf, Ancestor, NoCircle, steps, walk, stepLimit, walkUp, isBelow, below, leavesBelow, brought, rollUp}
+use Rattle.lists.proofs.Spans.{in-span}
+use Rattle.lists.proofs.Lists.{keep-in, in-keep, keep-none, take-in, any-in, in-any, FirstAt, first-at, at-in}
 use Rattle.model.proofs.Pigeonhole.{at-most}
+
+-- each activity names its parent
+pub parents-count : (book : Book) → length (parents book) ≡ length (book .activities)
+unfolding parents
+parents-count book = length-map (book .activities) (λ (a : Activity). a .parent)
 
 module _ (ps : Parents) where
   -- ---- a walk steps on ancestors only

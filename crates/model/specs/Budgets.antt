@@ -14,8 +14,7 @@ use Rattle.format.specs.declared.ChangeStatus.the-variants.{Pending, Approved}
 use Rattle.format.specs.Enumeration.{changeStatusNumber}
 use Rattle.format.specs.Book.{Budget, BudgetChange, Book}
 use Rattle.format.specs.Format.{names}
-use Rattle.holidays.specs.Holiday.{any}
-use Rattle.model.specs.Lists.{keep}
+use Rattle.lists.specs.Lists.{any, keep}
 use Rattle.model.specs.Tree.{parents, parentOf, indices, isLeaf, stepsMade}
 use Rattle.model.specs.Costs.{costOf, projectCost}
 use Rattle.model.specs.Forecast.{less}

@@ -12,7 +12,8 @@ use Rattle.dates.specs.declared.WeekdayOf.{WeekdayOf}
 use Rattle.dates.specs.declared.WeekdayOf.the-variants.{On, Nothing}
 use Rattle.dates.specs.Week.{indexOf}
 use Rattle.dates.specs.Date.{weekdayOf}
-use Rattle.holidays.specs.Holiday.{any, isHoliday}
+use Rattle.holidays.specs.Holiday.{isHoliday}
+use Rattle.lists.specs.Lists.{any}
 use Rattle.model.specs.Lookup.{calendarAt}
 
 -- the date is one of the list

@@ -8,7 +8,7 @@ use Rattle.format.specs.declared.Status.the-variants.{NotStarted, InProgress, C
 use Rattle.format.specs.Book.{Calendar, Activity, Book}
 use Rattle.model.specs.declared.Way.{Way}
 use Rattle.model.specs.declared.Way.the-variants.{Planned, Actual, Remaining}
-use Rattle.model.specs.Lists.{span, keep}
+use Rattle.lists.specs.Lists.{span, keep}
 use Rattle.model.specs.Lookup.{activityAt}
 use Rattle.model.specs.Calendar.{isWorking, calendarOf}
 

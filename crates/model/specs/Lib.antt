@@ -1,4 +1,3 @@
-pub mod Lists
 pub mod Lookup
 pub mod Calendar
 pub mod Days

@@ -10,8 +10,7 @@ use mir.Syntax.{w64}
 use Rattle.integer.specs.Clamp.{clamp}
 use Rattle.integer.specs.Folds.{saturated}
 use Rattle.format.specs.Book.{PeriodRecord, Book}
-use Rattle.holidays.specs.Holiday.{any}
-use Rattle.model.specs.Lists.{span, keep}
+use Rattle.lists.specs.Lists.{any, span, keep}
 use Rattle.model.specs.Tree.{parents, isLeaf}
 use Rattle.model.specs.Earned.{projectEarned}
 

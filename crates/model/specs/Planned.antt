@@ -8,7 +8,7 @@ use lib.IntN.{ℤ, pos, _+ℤ_}
 use mir.Syntax.{w64}
 use Rattle.integer.specs.Clamp.{clamp}
 use Rattle.format.specs.Book.{BaselineLine, Book}
-use Rattle.model.specs.Lists.{keep}
+use Rattle.lists.specs.Lists.{keep}
 use Rattle.model.specs.Lookup.{activityAt}
 use Rattle.model.specs.Calendar.{calendarOf}
 use Rattle.model.specs.Days.{dayList, plannedDays}

@@ -7,8 +7,7 @@ use mathlib.Core.Option.{Option, none, some}
 use lib.Dec.{eqb}
 use lib.ListN.{length, getD}
 use Rattle.format.specs.Book.{Activity, Book}
-use Rattle.holidays.specs.Holiday.{any}
-use Rattle.model.specs.Lists.{span, keep}
+use Rattle.lists.specs.Lists.{any, span, keep}
 
 abbrev pub Parents : Type 0
 Parents = List (Option ℕ)

@@ -8,7 +8,7 @@ use lib.IntN.{ℤ, pos, _-ℤ_}
 use lib.ListN.{length}
 use Rattle.format.specs.Book.{Calendar, BaselineLine, Book}
 use Rattle.money.specs.Costs.{completionOf}
-use Rattle.model.specs.Lists.{span, keep}
+use Rattle.lists.specs.Lists.{span, keep}
 use Rattle.model.specs.Lookup.{activityAt}
 use Rattle.model.specs.Calendar.{isWorking, calendarOf}
 use Rattle.model.specs.Tree.{parents, indices}

@@ -12,6 +12,7 @@ use fields::kinds::optional_amount;
 use fields::kinds::optional_date;
 use fields::kinds::optional_index;
 use format::Accrual;
+use format::OUT_OF_RANGE;
 use format::Pos;
 use format::Status;
 ghost use mathlib.Core.Path.{_≡_};
@@ -68,7 +69,7 @@ pub fn read_activity(book: &[u8], at: Pos, calendars: u64, activities: u64) -> A
     let at1 = parent.next;
     let calendar = optional_index(book, at1, calendars);
     let at2 = calendar.next;
-    let status = field(book, at2, 0, 3, 4);
+    let status = field(book, at2, 0, 3, OUT_OF_RANGE);
     let at3 = status.next;
     let start = date(book, at3);
     let at4 = start.next;
@@ -136,7 +137,7 @@ pub fn read_expense(book: &[u8], at: Pos, activities: u64) -> Expense
 {
     let activity = index(book, at, activities);
     let at1 = activity.next;
-    let accrual = field(book, at1, 0, 3, 4);
+    let accrual = field(book, at1, 0, 3, OUT_OF_RANGE);
     let at2 = accrual.next;
     let planned = amount(book, at2);
     let at3 = planned.next;

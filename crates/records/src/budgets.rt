@@ -7,6 +7,8 @@ use fields::kinds::field;
 use fields::kinds::optional_index;
 use fields::kinds::place;
 use format::ChangeStatus;
+use format::OUT_OF_ORDER;
+use format::OUT_OF_RANGE;
 use format::Pos;
 ghost use mathlib.Core.Option.{none};
 ghost use mathlib.Core.Path.{_≡_};
@@ -43,7 +45,7 @@ fn named_once(named: OptionalField, new: bool, place: usize) -> OptionalField
             }
             OptionalField {
                 value: OptionalNumber::Absent,
-                next: Pos::Refused(6, place),
+                next: Pos::Refused(OUT_OF_ORDER, place),
             }
         }
         Pos::Refused(_, _) => named,
@@ -77,7 +79,7 @@ pub fn read_budget_change(book: &[u8], at: Pos, activities: u64) -> BudgetChange
     let at1 = activity.next;
     let change = amount(book, at1);
     let at2 = change.next;
-    let status = field(book, at2, 0, 3, 4);
+    let status = field(book, at2, 0, 3, OUT_OF_RANGE);
     let next = status.next;
     let activity = activity.value;
     let status = change_status_of(status.value);

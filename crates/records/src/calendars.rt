@@ -3,6 +3,7 @@ use fields::enumerations::region_of;
 use fields::enumerations::working_of;
 use fields::kinds::field;
 use fields::kinds::rising;
+use format::OUT_OF_RANGE;
 use format::Pos;
 use format::Region;
 ghost use mathlib.Core.Path.{_≡_};
@@ -29,9 +30,9 @@ pub struct Exception {
 pub fn read_calendar_head(book: &[u8], at: Pos) -> CalendarHead
     ensures { λ r. ⌜ ((r .week, r .region), r .next) ≡ (codec.field (U 0 127) & region) .read (now (book .entry)) at ⌝ }
 {
-    let week = field(book, at, 0, 128, 4);
+    let week = field(book, at, 0, 128, OUT_OF_RANGE);
     let at1 = week.next;
-    let region = field(book, at1, 0, 2, 4);
+    let region = field(book, at1, 0, 2, OUT_OF_RANGE);
     let next = region.next;
     let region = region_of(region.value);
     CalendarHead {
@@ -47,7 +48,7 @@ pub fn read_exception(book: &[u8], at: Pos, before: u64) -> Exception
 {
     let day = rising(book, at, before);
     let at1 = day.next;
-    let working = field(book, at1, 0, 2, 4);
+    let working = field(book, at1, 0, 2, OUT_OF_RANGE);
     let next = working.next;
     let working = working_of(working.value);
     Exception {

@@ -4,6 +4,7 @@ use fields::enumerations::resource_kind_of;
 use fields::kinds::amount;
 use fields::kinds::field;
 use fields::kinds::optional_date;
+use format::OUT_OF_RANGE;
 use format::Pos;
 use format::ResourceKind;
 ghost use mathlib.Core.Path.{_≡_};
@@ -27,7 +28,7 @@ pub struct Price {
 pub fn read_resource_head(book: &[u8], at: Pos) -> ResourceHead
     ensures { λ r. ⌜ (r .kind, r .next) ≡ resourceKind .read (now (book .entry)) at ⌝ }
 {
-    let kind = field(book, at, 0, 3, 4);
+    let kind = field(book, at, 0, 3, OUT_OF_RANGE);
     let next = kind.next;
     let kind = resource_kind_of(kind.value);
     ResourceHead { kind, next }

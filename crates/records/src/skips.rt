@@ -7,6 +7,7 @@ use fields::kinds::minutes;
 use fields::kinds::optional_amount;
 use fields::kinds::optional_date;
 use fields::kinds::optional_index;
+use format::OUT_OF_RANGE;
 use format::Pos;
 ghost use mathlib.Core.Path.{_≡_};
 ghost use Rattle.format.specs.Format as layout;
@@ -19,7 +20,7 @@ pub fn skip_activity(book: &[u8], at: Pos, calendars: u64, activities: u64) -> P
     let at1 = parent.next;
     let calendar = optional_index(book, at1, calendars);
     let at2 = calendar.next;
-    let status = field(book, at2, 0, 3, 4);
+    let status = field(book, at2, 0, 3, OUT_OF_RANGE);
     let at3 = status.next;
     let start = date(book, at3);
     let at4 = start.next;
@@ -59,7 +60,7 @@ pub fn skip_expense(book: &[u8], at: Pos, activities: u64) -> Pos
 {
     let activity = index(book, at, activities);
     let at1 = activity.next;
-    let accrual = field(book, at1, 0, 3, 4);
+    let accrual = field(book, at1, 0, 3, OUT_OF_RANGE);
     let at2 = accrual.next;
     let planned = amount(book, at2);
     let at3 = planned.next;

@@ -14,7 +14,7 @@ use Rattle.format.specs.Book.{Price}
 use Rattle.format.specs.declared.EtcTechnique.the-variants.{Cpi, CpiSpi}
 use Rattle.model.specs.declared.Earned.{Earned}
 use Rattle.model.specs.Forecast.{cpi, spi, toEarn, etc}
-use Rattle.model.specs.Lists.{keep}
+use Rattle.lists.specs.Lists.{keep}
 use Rattle.model.specs.Costs.{later, priceAmong, priceOn}
 use Rattle.dates.specs.declared.Day.{Day}
 use Rattle.dates.specs.declared.Day.the-variants.{At, Nothing}

@@ -1,26 +1,11 @@
--- Numbers set in lent memory, one run behind the other.
-use Prim.Native.Nat.{ℕ, suc, _+_, _≤_}
-use native.Mathlib.Omega.{arith}
-use mathlib.Core.Path.{_≡_, refl, ap}
-use mathlib.Core.List.{List, [], _∷_, _++_, append-nil}
+-- What may be absent, as numbers.
+use mathlib.Core.Path.{_≡_, refl}
 use mathlib.Core.Option.{Option, none, some}
-use lib.ListN.{length, set}
-use lib.Seq.{sets, sets-eq, drop-length}
+use Prim.Native.Nat.{ℕ}
+use lib.ListN.{length}
 use Rattle.rows.specs.Rows.{optional}
 
--- what is set behind what was set
-pub sets-on : (out : List ℕ) (at : ℕ) (r rs : List ℕ) (n : ℕ) → at + length r ≡ n → sets (sets out at r) n rs ≡ sets out at (r ++ rs)
-sets-on out at [] rs n e = let z : n ≡ at = omega arith in ap (λ (k : ℕ). sets out k rs) z
-sets-on out at (x ∷ r) rs n e = sets-on (set out at x) (suc at) r rs n (omega arith)
-
--- as many numbers as are lent
-pub sets-whole : (vs out : List ℕ) → length vs ≡ length out → sets out 0 vs ≡ vs
-sets-whole vs out e =
-    let room : 0 + length vs ≤ length out = omega arith in
-    let all : 0 + length vs ≡ length out = omega arith in
-    rw (sets-eq vs out 0 room, all, drop-length out) (append-nil vs)
-
--- what may be absent takes two numbers
+-- it takes two
 pub optional-two : (o : Option ℕ) → length (optional o) ≡ 2
 unfolding optional
 optional-two none = refl

@@ -1,12 +1,12 @@
-// Rows of numbers in lent memory: figures as they stand, one column at a time, and a number that may be absent.
+// Rows of numbers in lent memory: figures as they stand, one row at a place, and a number that may be absent.
 ghost use mathlib.Core.Path.{_≡_};
 ghost use mathlib.Core.List.{map};
-ghost use Prim.Native.Nat.{_+_, _*_, _≤_, _<_};
+ghost use Prim.Native.Nat.{_+_, _≤_, _<_};
 ghost use lib.ListN.{length};
 ghost use lib.Seq.{sets};
 ghost use Rattle.fields.specs.Optional.{numberOption};
 ghost use Rattle.money.specs.Words.{bits};
-ghost use Rattle.rows.specs.Rows.{placed, optional};
+ghost use Rattle.rows.specs.Rows.{optional};
 use fields::OptionalNumber;
 use money::words::to_bits;
 
@@ -23,18 +23,15 @@ pub fn put_numbers(figures: &[i64], out: &mut [u64])
     }
 }
 
-// Puts a column's figures into rows of `width` numbers, each as number `at` of its row.
-pub fn put_column(column: &[i64], width: usize, at: usize, out: &mut [u64])
-    requires { ⌜ (at < width) × (length (now column) * width ≤ length (now out)) × (width ≤ 16) ⌝ }
-    ensures { λ r. ⌜ now (out .exit) ≡ placed width at (now (column .entry)) (now (out .entry)) ⌝ }
+// Sets a row at a place.
+pub fn put_row(row: &[u64], at: usize, out: &mut [u64])
+    requires { ⌜ at + length (now row) ≤ length (now out) ⌝ }
+    ensures { λ r. ⌜ now (out .exit) ≡ sets (now (out .entry)) at (now (row .entry)) ⌝ }
 {
-    let mut place = at;
-    let mut i: usize = 0;
-    while i < column.len() {
-        let x = column[i];
-        out[place] = to_bits(x);
-        place += width;
-        i += 1;
+    let mut k = 0;
+    while k < row.len() {
+        out[at + k] = row[k];
+        k += 1;
     }
 }
 

@@ -1,6 +1,4 @@
 pub mod Walks
-pub mod Rolled
-pub mod Spans
 pub mod Rows
 pub mod Adding
 pub mod Climbing

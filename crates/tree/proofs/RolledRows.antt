@@ -7,13 +7,14 @@ use lib.IntN.{ℤ, pos}
 use lib.ListN.{length, getD, length-map}
 use lib.Seq.{ext-getD}
 use Rattle.flat.proofs.Tables.{flat-same}
-use Rattle.model.specs.Lists.{span}
+use Rattle.lists.specs.Lists.{span}
 use Rattle.model.specs.Tree.{rollUp}
-use Rattle.model.proofs.Lists.{span-in, made-at, map-same}
+use Rattle.lists.proofs.Spans.{span-in, made-at, span-length}
+use Rattle.lists.proofs.Lists.{map-same}
 use Rattle.tree.specs.Figures.{parentsOf, saturatingAdd, cellOf, rolledRows}
-use Rattle.tree.proofs.Rolled.{count-is}
+use Rattle.tree.proofs.Walks.{count-is}
 use Rattle.tree.proofs.Rows.{figure-rolled}
-use Rattle.tree.proofs.Spans.{span-length, rows-at}
+use Rattle.flat.proofs.Spans.{rows-at}
 
 module _ (width : ℕ) (numbers : List ℕ) where
   -- figure j of row i of these rows

@@ -6,9 +6,9 @@ use native.Mathlib.Omega.{arith}
 use lib.Dec.{eqb}
 use lib.IntN.{ℤ}
 use lib.ListN.{length}
-use Rattle.model.specs.Lists.{keep}
+use Rattle.lists.specs.Lists.{keep}
 use Rattle.model.specs.Tree.{Parents, indices, walkUp, brought, rollUp}
-use Rattle.model.proofs.Lists.{span-in}
+use Rattle.lists.proofs.Spans.{span-in}
 use Rattle.tree.specs.Figures.{saturatingAdd}
 
 module _ {Row : Type 0} (add : Row → Row → Row) (f : Row → ℤ) (g : (a b : Row) → f (add a b) ≡ saturatingAdd (f a) (f b)) where

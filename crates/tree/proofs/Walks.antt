@@ -2,18 +2,18 @@
 use Prim.Native.Nat.{ℕ, zero, suc, _+_, _-_, _≤_, _<_}
 use mathlib.Core.Path.{_≡_, refl, ap, _∙_}
 use mathlib.Core.Bool.{Bool, cond}
-use mathlib.Core.List.{List, [], _∷_, map}
+use mathlib.Core.List.{List, [], _∷_}
 use mathlib.Core.Option.{Option, none, some}
 use native.Mathlib.Omega.{arith}
-use lib.ListN.{length, getD}
+use lib.ListN.{length, getD, length-map}
 use borrow.Author.Tests.{lt-ltb, le-ltb}
+use Rattle.lists.proofs.Lists.{at-map}
 use Rattle.model.specs.Tree.{parentOf, steps, walk}
 use Rattle.tree.specs.Figures.{indexOf, parentsOf}
 
-pub at-map : {A B : Type 0} (f : A → B) (xs : List A) (i : ℕ) (a : A) (b : B) → i < length xs → getD (map f xs) i b ≡ f (getD xs i a)
-at-map f [] i a b h = absurd (omega arith)
-at-map f (x ∷ xs) zero a b h = refl
-at-map f (x ∷ xs) (suc i) a b h = at-map f xs i a b (omega arith)
+pub count-is : (numbers : List ℕ) → length (parentsOf numbers) ≡ length numbers
+unfolding parentsOf
+count-is numbers = length-map numbers (indexOf (length numbers))
 
 module _ (numbers : List ℕ) where
   -- the steps that are left where the walk has come to a number

@@ -8,8 +8,9 @@ use native.Mathlib.Omega.{arith}
 use lib.ListN.{drop, getD}
 use borrow.Author.Tests.{eq-eqb, ne-eqb}
 use Rattle.holidays.specs.declared.MonthDay.{MonthDay}
-use Rattle.holidays.specs.Holiday.{any, on, fixedDays, isOn, isFixed}
-use Rattle.holidays.proofs.Search.{hit, miss}
+use Rattle.holidays.specs.Holiday.{on, fixedDays, isOn, isFixed}
+use Rattle.lists.specs.Lists.{any}
+use Rattle.lists.proofs.Search.{hit, miss}
 use Rattle.holidays.proofs.is_fixed.Statement.{statement}
 use Rattle.holidays.proofs.is_fixed.Tie as tie
 

@@ -9,7 +9,8 @@ use mir.Syntax.{w32}
 use mir.Val.{SFits, toZ, ofZ}
 use mir.Facts.{toZ-ofZ}
 use borrow.Author.Tests.{eq-eqb, ne-eqb}
-use Rattle.holidays.specs.Holiday.{any, same, isMovable}
+use Rattle.holidays.specs.Holiday.{same, isMovable}
+use Rattle.lists.specs.Lists.{any}
 use Rattle.holidays.proofs.Years.{self, equal}
 use Rattle.holidays.proofs.is_movable.Statement.{statement}
 use Rattle.holidays.proofs.is_movable.Tie as tie

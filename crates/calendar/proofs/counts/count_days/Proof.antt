@@ -4,7 +4,7 @@ use mathlib.Core.Path.{_≡_, refl, sym, _∙_}
 use native.Mathlib.Omega.{arith}
 use borrow.Author.Needs.{needs}
 use lib.ListN.{length, length-set}
-use Rattle.model.specs.Lists.{span, keep}
+use Rattle.lists.specs.Lists.{span, keep}
 use Rattle.calendar.specs.Tables.{entry, works}
 use Rattle.calendar.proofs.Spans.{entries-more, one-most, kept-none, kept-more}
 use Rattle.calendar.proofs.counts.count_days.Statement.{statement}

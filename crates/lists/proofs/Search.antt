@@ -9,7 +9,7 @@ use native.Mathlib.Omega.{arith}
 use native.Mathlib.Numerals.{add-one}
 use lib.ListN.{length, getD, drop}
 use lib.Seq.{drop-cons}
-use Rattle.holidays.specs.Holiday.{any}
+use Rattle.lists.specs.Lists.{any}
 
 module _ {A : Type 0} (p : A → Bool) (xs : List A) (i : ℕ) (l : i < length xs) (x : A) where
   opened : any p (drop i xs) ≡ (p (getD xs i x) || any p (drop (i + 1) xs))

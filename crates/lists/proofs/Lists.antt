@@ -1,4 +1,4 @@
--- Laws of the lists: what they hold, and that they rise.
+-- Laws of the lists: what they hold, what is kept of them, what is made of each element. Assumes nothing.
 use Prim.Native.Nat.{ℕ, zero, suc, _+_, _≤_, _<_}
 use mathlib.Core.Path.{_≡_, refl, sym, ap, ap₂, _∙_, subst}
 use mathlib.Core.Logic.{_⊎_, inl, inr, ⊎-elim}
@@ -9,35 +9,9 @@ use native.Mathlib.Decide.{ℕ-discrete}
 use lib.Dec.{eqb}
 use lib.ListN.{length, getD, take}
 use borrow.Author.Tests.{eqb-true}
-use Rattle.format.specs.InRange.{Rising}
-use Rattle.holidays.specs.Holiday.{any}
-use Rattle.model.specs.Lists.{span, consIf, keep}
+use Rattle.lists.specs.Lists.{any, consIf, keep}
 
 -- ---- what is in them
-pub span-in : (a n d : ℕ) → List·Memᴰ d (span a n) → (a ≤ d) × (d < a + n)
-unfolding span
-span-in a zero d m = absurd (List·Memᴰ·not-nil m)
-span-in a (suc n) d m = ⊎-elim (λ e. omega arith) (λ r. let h = span-in (suc a) n d r in omega arith) (List·Memᴰ·cases-cons m)
-
-pub in-span : (a n d : ℕ) → a ≤ d → d < a + n → List·Memᴰ d (span a n)
-unfolding span
-in-span a zero d h k = absurd (omega arith)
-in-span a (suc n) d h k = go (ℕ-discrete d a) (in-span (suc a) n d)
-  where
-    go : Dec (d ≡ a) → (suc a ≤ d → d < suc a + n → List·Memᴰ d (span (suc a) n)) → List·Memᴰ d (a ∷ span (suc a) n)
-    go (yes e) ih = List·Memᴰ·head e
-    go (no e) ih = List·Memᴰ·tail (ih (omega arith) (omega arith))
-
--- made of each number of a span
-made-from : {A : Type 0} (f : ℕ → A) (d : A) (a n i : ℕ) → i < n → getD (map f (span a n)) i d ≡ f (a + i)
-unfolding span
-made-from f d a zero i h = absurd (omega arith)
-made-from f d a (suc n) zero h = let e : a ≡ a + 0 = omega arith in ap f e
-made-from f d a (suc n) (suc i) h = let e : suc a + i ≡ a + suc i = omega arith in made-from f d (suc a) n i (omega arith) ∙ ap f e
-
-pub made-at : {A : Type 0} (f : ℕ → A) (d : A) (n i : ℕ) → i < n → getD (map f (span 0 n)) i d ≡ f i
-made-at f d n i h = let e : 0 + i ≡ i = omega arith in made-from f d 0 n i h ∙ ap f e
-
 pub any-in : (x : ℕ) (xs : List ℕ) → any (eqb x) xs ≡ true → List·Memᴰ x xs
 unfolding any
 any-in x [] e = absurd (true≢false (sym e))
@@ -128,12 +102,6 @@ module _ {A : Type 0} (p : A → Bool) where
       go true = refl
       go false = refl
 
-  pub keep-same : (q : A → Bool) (xs : List A) → ((x : A) → p x ≡ q x) → keep p xs ≡ keep q xs
-  unfolding keep
-  keep-same q [] h = refl
-  keep-same q (x ∷ xs) h = ap₂ (λ (b : Bool) (l : List A). consIf b x l) (h x) (keep-same q xs h)
-
-  -- a wider test keeps no fewer
   pub keep-fewer : (q : A → Bool) (xs : List A) → ((x : A) → p x ≡ true → q x ≡ true) → length (keep p xs) ≤ length (keep q xs)
   unfolding keep
   keep-fewer q [] h = omega arith
@@ -185,6 +153,22 @@ module _ {A : Type 0} (p : A → Bool) where
       go true e ih = ap₂ _∷_ (h x e) ih
       go false e ih = ih
 
+-- tests that agree on what is in the list
+pub keep-alike : {A : Type 0} (p q : A → Bool) (xs : List A) → ((x : A) → List·Memᴰ x xs → p x ≡ q x) → keep p xs ≡ keep q xs
+unfolding keep
+keep-alike p q [] h = refl
+keep-alike p q (x ∷ xs) h =
+    ap (λ (b : Bool). consIf b x (keep p xs)) (h x (List·Memᴰ·head refl)) ∙ ap (consIf (q x) x) (keep-alike p q xs (λ y m. h y (List·Memᴰ·tail m)))
+
+pub keep-same : {A : Type 0} (p q : A → Bool) (xs : List A) → ((x : A) → p x ≡ q x) → keep p xs ≡ keep q xs
+keep-same p q xs h = keep-alike p q xs (λ x m. h x)
+
+-- ---- made of each element
+pub at-map : {A B : Type 0} (f : A → B) (xs : List A) (i : ℕ) (a : A) (b : B) → i < length xs → getD (map f xs) i b ≡ f (getD xs i a)
+at-map f [] i a b h = absurd (omega arith)
+at-map f (x ∷ xs) zero a b h = refl
+at-map f (x ∷ xs) (suc i) a b h = at-map f xs i a b (omega arith)
+
 pub map-same : {A B : Type 0} (f g : A → B) (xs : List A) → ((x : A) → List·Memᴰ x xs → f x ≡ g x) → map f xs ≡ map g xs
 map-same f g [] h = refl
 map-same f g (x ∷ xs) h = ap₂ _∷_ (h x (List·Memᴰ·head refl)) (map-same f g xs (λ y m. h y (List·Memᴰ·tail m)))
@@ -227,51 +211,3 @@ got-in (x ∷ xs) d (suc k) h = List·Memᴰ·tail (got-in xs d k (omega arith))
 
 pub at-in : (x : ℕ) (xs : List ℕ) (k : ℕ) → k < length xs → getD xs k 0 ≡ x → List·Memᴰ x xs
 at-in x xs k h e = subst (λ (y : ℕ). List·Memᴰ y xs) e (got-in xs 0 k h)
-
--- ---- their order
-keep-from : (p : ℕ → Bool) (a n k : ℕ) → k < length (keep p (span a n)) → a ≤ getD (keep p (span a n)) k 0
-unfolding span keep
-keep-from p a zero k h = absurd (omega arith)
-keep-from p a (suc n) k h = go (p a) (keep-from p (suc a) n) k h
-  where
-    go : (b : Bool) → ((k : ℕ) → k < length (keep p (span (suc a) n)) → suc a ≤ getD (keep p (span (suc a) n)) k 0)
-        → (k : ℕ) → k < length (consIf b a (keep p (span (suc a) n))) → a ≤ getD (consIf b a (keep p (span (suc a) n))) k 0
-    go false ih k h = omega (arith, ih k h)
-    go true ih zero h = omega arith
-    go true ih (suc k) h = omega (arith, ih k (omega arith))
-
-pub keep-rises : (p : ℕ → Bool) (a n : ℕ) → Rising (keep p (span a n))
-unfolding span keep
-keep-rises p a zero j k m l = absurd (omega arith)
-keep-rises p a (suc n) j k m l = go (p a) (keep-rises p (suc a) n) j k m l
-  where
-    go : (b : Bool) → Rising (keep p (span (suc a) n)) → Rising (consIf b a (keep p (span (suc a) n)))
-    go false r j k m l = r j k m l
-    go true r zero zero m l = absurd (omega arith)
-    go true r zero (suc k) m l = keep-from p (suc a) n k (omega arith)
-    go true r (suc j) zero m l = absurd (omega arith)
-    go true r (suc j) (suc k) m l = r j k (omega arith) (omega arith)
-
--- ---- a rising list is known by what it holds
-module _ (x : ℕ) (xs : List ℕ) (r : Rising (x ∷ xs)) where
-  pub rest-rises : Rising xs
-  rest-rises j k h l = r (suc j) (suc k) (omega arith) (omega arith)
-
-  pub least : (d : ℕ) → List·Memᴰ d xs → x < d
-  least d m = let f = first-at d xs m in omega (arith, f .here, r 0 (suc (f .at)) (omega arith) (omega (arith, f .inside)))
-
-pub rising-same : (xs ys : List ℕ) → Rising xs → Rising ys → ((d : ℕ) → List·Memᴰ d xs → List·Memᴰ d ys) → ((d : ℕ) → List·Memᴰ d ys → List·Memᴰ d xs) → xs ≡ ys
-rising-same [] [] r s f g = refl
-rising-same [] (y ∷ ys) r s f g = absurd (List·Memᴰ·not-nil (g y (List·Memᴰ·head refl)))
-rising-same (x ∷ xs) [] r s f g = absurd (List·Memᴰ·not-nil (f x (List·Memᴰ·head refl)))
-rising-same (x ∷ xs) (y ∷ ys) r s f g =
-    ap₂ _∷_ same
-    (rising-same xs ys (rest-rises x xs r) (rest-rises y ys s)
-    (λ d m. inner (f d (List·Memᴰ·tail m)) (λ e. omega (arith, same, least x xs r d m)))
-    (λ d m. inner (g d (List·Memᴰ·tail m)) (λ e. omega (arith, same, least y ys s d m))))
-  where
-    same : x ≡ y
-    same = ⊎-elim (λ e. e) (λ m. ⊎-elim sym (λ n. absurd (omega (arith, least y ys s x m, least x xs r y n))) (List·Memᴰ·cases-cons (g y (List·Memᴰ·head refl)))) (List·Memᴰ·cases-cons (f x (List·Memᴰ·head refl)))
-
-    inner : {d z : ℕ} {zs : List ℕ} → List·Memᴰ d (z ∷ zs) → (d ≡ z → ⊥) → List·Memᴰ d zs
-    inner m h = ⊎-elim (λ e. absurd (h e)) (λ n. n) (List·Memᴰ·cases-cons m)

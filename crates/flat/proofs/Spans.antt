@@ -1,28 +1,14 @@
 -- Tables with a row for each number below n.
-use Prim.Native.Nat.{ℕ, zero, suc, _+_, _*_, _≤_, _<_}
-use native.Mathlib.Nat.{zero-add}
+use Prim.Native.Nat.{ℕ, _+_, _*_, _≤_, _<_}
 use native.Mathlib.Omega.{arith}
-use mathlib.Core.Path.{_≡_, refl, sym, ap, _∙_}
+use mathlib.Core.Path.{_≡_, sym, ap, _∙_}
 use mathlib.Core.List.{List, flatMap}
 use lib.ListN.{length, getD}
 use lib.Seq.{sets}
 use Rattle.flat.proofs.Tables.{flat-length, flat-at, flat-cells}
 use Rattle.flat.proofs.Written.{Written, written-none, written-more, written-room, written-end}
-use Rattle.model.specs.Lists.{span}
-
-pub span-length : (a n : ℕ) → length (span a n) ≡ n
-unfolding span
-span-length a zero = refl
-span-length a (suc n) = ap suc (span-length (suc a) n)
-
-from-at : (a n i : ℕ) → i < n → getD (span a n) i 0 ≡ a + i
-unfolding span
-from-at a zero i h = absurd (omega arith)
-from-at a (suc n) zero h = omega arith
-from-at a (suc n) (suc i) h = omega (arith, from-at (suc a) n i (omega arith))
-
-pub span-at : (n i : ℕ) → i < n → getD (span 0 n) i 0 ≡ i
-span-at n i h = from-at 0 n i h ∙ zero-add i
+use Rattle.lists.specs.Lists.{span}
+use Rattle.lists.proofs.Spans.{span-length, span-at}
 
 module _ {B : Type 0} (width : ℕ) (row : ℕ → List B) (wide : (i : ℕ) → length (row i) ≡ width) (n : ℕ) where
   pub rows-length : length (flatMap row (span 0 n)) ≡ n * width
