@@ -10,7 +10,7 @@ use lib.ListN.{length}
 use Rattle.format.specs.declared.Status.{Status}
 use Rattle.format.specs.declared.Status.the-variants.{NotStarted, InProgress, Completed}
 use Rattle.format.specs.Inverse.{Given}
-use Rattle.format.specs.InRange.{IsDate, Every, ActivityInRange, InRange}
+use Rattle.format.specs.InRange.{IsDate, ActivityInRange, InRange}
 use Rattle.format.specs.Book.{Calendar, Activity, Book}
 use Rattle.model.specs.declared.Way.{Way}
 use Rattle.model.specs.declared.Way.the-variants.{Planned, Actual, Remaining}

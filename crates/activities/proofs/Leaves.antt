@@ -12,9 +12,9 @@ use Rattle.format.specs.Inverse.{Given}
 use Rattle.format.specs.InRange.{Every, InRange}
 use Rattle.format.specs.Book.{Activity, Book}
 use Rattle.format.specs.Format as layout
-use Rattle.holidays.specs.Holiday.{any}
+use Rattle.lists.specs.Lists.{any}
 use Rattle.book.specs.Sections.{markOf}
-use Rattle.book.specs.Leaves.{isParent, leafMark}
+use Rattle.activities.specs.Leaves.{isParent, leafMark}
 use Rattle.model.specs.Tree.{parents, names, isLeaf}
 use Rattle.tree.specs.Figures.{indexOf, parentsOf, MarksLeaves}
 use Rattle.activities.specs.Columns.{parentNumber}

@@ -5,4 +5,3 @@ pub mod Days
 pub mod Leaves
 pub mod Scheduling
 pub mod Marking
-pub mod Lending

@@ -3,17 +3,17 @@ use Prim.Native.Nat.{ℕ, suc, _+_, _≤_, _<_, min}
 use native.Mathlib.Omega.{arith}
 use mathlib.Core.Path.{_≡_, refl, ap, sym, _∙_}
 use mathlib.Core.Bool.{Bool, true, false, cond}
-use mathlib.Core.List.{List, []}
+use mathlib.Core.List.{List}
 use mathlib.Core.Option.{Option, none, some}
 use lib.Dec.{eqb}
-use lib.ListN.{length, getD, set, drop, length-set, drop-of-length-le, replicate, getD-replicate, length-replicate}
+use lib.ListN.{length, getD, set, drop, drop-of-length-le, replicate, getD-replicate}
 use lib.Seq.{drop-cons, getD-set-same, getD-set-other}
 use borrow.Author.Tests.{eqb-true, eqb-false}
 use Rattle.format.specs.Book.{Activity, Book}
 use Rattle.format.specs.Format.{names}
 use Rattle.book.specs.Sections.{markOf}
-use Rattle.book.specs.Leaves.{isParent, leafMark}
-use Rattle.model.specs.Lookup.{noActivity, activityAt}
+use Rattle.activities.specs.Leaves.{isParent, leafMark}
+use Rattle.model.specs.Lookup.{noActivity}
 use Rattle.model.specs.Tree.{parents}
 use Rattle.tree.specs.Figures.{MarksLeaves}
 use Rattle.activities.specs.Columns.{parentNumber}

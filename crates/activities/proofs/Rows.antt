@@ -1,11 +1,11 @@
 -- Rows of the elements of a list of the book: what a loop keeps that reads an element a turn and sets its row.
-use Prim.Native.Nat.{ℕ, suc, _+_, _*_, _-_, _≤_, _<_}
+use Prim.Native.Nat.{ℕ, zero, suc, _+_, _*_, _-_, _≤_, _<_}
 use native.Mathlib.Omega.{arith}
 use native.Mathlib.Decide.{decLt}
-use mathlib.Core.Path.{_≡_, ap, ap₂, sym, _∙_}
+use mathlib.Core.Path.{_≡_, refl, ap, sym, _∙_}
 use mathlib.Core.List.{List, [], _∷_, flatMap}
-use lib.ListN.{length, getD, drop, set, length-set}
-use lib.Seq.{sets, length-sets, drop-cons, getD-set-same, getD-set-other}
+use lib.ListN.{length, getD, set, length-set}
+use lib.Seq.{sets, length-sets, getD-set-same, getD-set-other}
 use Rattle.format.specs.declared.Pos.{Pos}
 use Rattle.format.specs.Reader.{many}
 use Rattle.format.specs.Codec.{Codec, times, alike, stay}
@@ -37,6 +37,13 @@ one-more :
 unfolding times many
 one-more {A} c s m q e = ap (λ (u : A × Pos). u .0 ∷ alike m c .read s (u .1) .0) e
 
+-- element k is what is read behind the k before it
+pub element-at : {A : Type 0} (c : Codec A) (s : List ℕ) (n k : ℕ) (p : Pos) (d : A) → k < n → getD (alike n c .read s p .0) k d ≡ c .read s (alike k c .read s p .1) .0
+unfolding times many
+element-at c s zero k p d h = absurd (omega arith)
+element-at c s (suc n) zero p d h = refl
+element-at c s (suc n) (suc k) p d h = element-at c s n k (c .read s p .1) d (omega arith)
+
 none-left : {A : Type 0} (c : Codec A) (s : List ℕ) (m : ℕ) (q : Pos) → m ≡ 0 → alike m c .read s q .0 ≡ []
 unfolding times many
 none-left c s m q e = rw e
@@ -55,15 +62,6 @@ module _ {A B : Type 0} {c : Codec A} {row : A → List B} {k : ℕ} {s : List �
 
   pub rows-end : n ≤ i → t ≡ flatMap row (alike n c .read s p .0)
   rows-end h = writing-end (w .rest) (none-left c s (n - i) q (omega arith))
-
--- ---- what a loop keeps that sets a row number by number
-
-pub row-step :
-    {B : Type 0} (t row : List B) (at k : ℕ) (d : B) → k < length row → sets (set t (at + k) (getD row k d)) (at + (k + 1)) (drop (k + 1) row) ≡ sets t (at + k) (drop k row)
-row-step {B} t row at k d h =
-    let x : at + (k + 1) ≡ suc (at + k) = omega arith in
-    let y : k + 1 ≡ suc k = omega arith in
-    ap₂ (λ (m n : ℕ). sets (set t (at + k) (getD row k d)) m (drop n row)) x y ∙ sym (ap (λ (l : List B). sets t (at + k) l) (drop-cons row k d h))
 
 -- ---- what a loop keeps that copies the numbers at one place of the rows
 

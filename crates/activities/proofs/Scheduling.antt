@@ -3,14 +3,13 @@ use Prim.Native.Nat.{ℕ, zero, suc, _+_, _*_, _≤_, _<_}
 use native.Mathlib.Omega.{arith}
 use native.Mathlib.Decide.{decLt}
 use mathlib.Core.Path.{_≡_, refl, ap, ap₂, sym, _∙_}
-use mathlib.Core.List.{List, [], _∷_, map, flatMap}
+use mathlib.Core.List.{List, map}
 use mathlib.Core.Option.{Option, none, some, Option·getD}
 use lib.IntN.{ℤ}
 use lib.ListN.{length, getD, length-map, List·getD-eq-default}
 use lib.Seq.{ext-getD}
-use Rattle.format.specs.declared.Status.{Status}
 use Rattle.format.specs.Inverse.{Given}
-use Rattle.format.specs.Enumeration.{statusOf, statusNumber, status-back}
+use Rattle.format.specs.Enumeration.{statusOf, status-back}
 use Rattle.format.specs.InRange.{IsDate, Fits64, IsMinutes, InRange}
 use Rattle.format.specs.Book.{Activity, Book}
 use Rattle.format.specs.Verdict.{content}
@@ -20,7 +19,7 @@ use Rattle.book.specs.declared.layout.Plan.{Plan}
 use Rattle.book.specs.Plan.{IsPlanOf}
 use Rattle.book.proofs.Plan.{activities-count, activities-most, calendars-least, activities-in-range}
 use Rattle.flat.proofs.Tables.{flat-length, flat-at}
-use Rattle.money.specs.Words.{bits, ofBits}
+use Rattle.money.specs.Words.{ofBits}
 use Rattle.money.proofs.Bits.{there-and-back}
 use Rattle.model.specs.declared.Way.{Way}
 use Rattle.model.specs.declared.Way.the-variants.{Planned, Actual, Remaining}
@@ -29,7 +28,7 @@ use Rattle.model.specs.Calendar.{calendarOf}
 use Rattle.model.specs.Days.{daysOf}
 use Rattle.model.specs.Tree.{parents}
 use Rattle.tree.specs.Figures.{parentsOf}
-use Rattle.tree.proofs.Walks.{at-map}
+use Rattle.lists.proofs.Lists.{at-map}
 use Rattle.activities.specs.Columns.{parentNumber, calendarNumber, firstDate, lastDate, daysIn}
 use Rattle.activities.specs.Schedule.{percentGiven, percentBits, percentOf, scheduleRow, scheduleOf, entryAt, calendarIn, firstPlace, lastPlace, firstIn, lastIn}
 use Rattle.activities.specs.Ways.{wayNumber}
@@ -60,6 +59,28 @@ percent-back (some z) h = ap (λ (x : ℤ). some x) (there-and-back z h)
 given-below : (n : ℕ) (o : Option ℕ) → 0 < n → Given (λ (i : ℕ). i < n) o → Option·getD o 0 < n
 given-below n none l h = l
 given-below n (some i) l h = h
+
+-- ---- of one row
+
+module _ (date : Option ℕ) (a : Activity) {row : List ℕ} (e : row ≡ scheduleRow date a) where
+  pub row-long : length row ≡ 13
+  row-long = ap length e ∙ row-wide date a
+
+  pub row-status : statusOf (entryAt row 0 8) ≡ a .status
+  unfolding scheduleRow
+  row-status = ap (λ (t : List ℕ). statusOf (entryAt t 0 8)) e ∙ status-back (a .status)
+
+  pub row-working : entryAt row 0 9 ≡ a .workingMinutes
+  unfolding scheduleRow
+  row-working = ap (λ (t : List ℕ). entryAt t 0 9) e
+
+  pub row-remaining : entryAt row 0 10 ≡ a .remainingMinutes
+  unfolding scheduleRow
+  row-remaining = ap (λ (t : List ℕ). entryAt t 0 10) e
+
+  pub row-percent : Given Fits64 (a .percent) → percentOf (entryAt row 0 11) (entryAt row 0 12) ≡ a .percent
+  unfolding scheduleRow
+  row-percent g = ap (λ (t : List ℕ). percentOf (entryAt t 0 11) (entryAt t 0 12)) e ∙ percent-back (a .percent) g
 
 -- ---- of any book
 
@@ -176,9 +197,6 @@ module _ {s : List ℕ} {date : OptionalNumber} {plan : Plan} (p : IsPlanOf s da
       schedule-minutes =
           let a = activities-in-range p i noActivity among in
           (rw (working-at (content s) e i among) (a .workingMinutes), rw (remaining-at (content s) e i among) (a .remainingMinutes))
-
-      pub schedule-percent : percentOf (entryAt schedule i 11) (entryAt schedule i 12) ≡ activityAt (content s) i .percent
-      schedule-percent = percent-at (content s) e i among (activities-in-range p i noActivity among .percent)
 
       pub schedule-days : (way : Way) → daysOf (content s) way i ≡ daysIn (calendarAt (content s) (calendarIn schedule i)) (firstIn schedule way i) (lastIn schedule way i)
       schedule-days way = days-at (content s) e (content-in-range s (p .accepted)) way i among

@@ -1,4 +1,5 @@
 pub mod Columns
+pub mod Leaves
 pub mod Schedule
 pub mod Stretches
 pub mod Ways

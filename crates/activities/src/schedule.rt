@@ -6,6 +6,8 @@ use crate::spans::remaining_since;
 use crate::ways::way_number;
 use book::Section;
 use book::budgets::mark_of;
+use book::elements::Element;
+use book::elements::skip_all;
 use book::layout::Plan;
 use fields::OptionalAmount;
 use fields::OptionalNumber;
@@ -16,11 +18,11 @@ use money::words::from_bits;
 use money::words::to_bits;
 use records::activities::Activity;
 use records::activities::read_activity;
+use rows::put_row;
 ghost use mathlib.Core.Path.{_≡_};
-ghost use mathlib.Core.List.{[], _∷_, map, flatMap};
+ghost use mathlib.Core.List.{map, flatMap};
 ghost use Prim.Native.Nat.{_+_, _*_, _≤_, _<_};
 ghost use lib.ListN.{length};
-ghost use lib.Seq.{sets};
 ghost use Rattle.format.specs.Book.{Book};
 ghost use Rattle.format.specs.Enumeration.{statusOf, statusNumber};
 ghost use Rattle.format.specs.Format as layout;
@@ -28,15 +30,15 @@ ghost use Rattle.format.specs.Verdict.{content};
 ghost use Rattle.fields.specs.Optional.{numberOption, amountOption};
 ghost use Rattle.records.specs.Decoded.{activityOf};
 ghost use Rattle.book.specs.Sections.{alikeIn};
+ghost use Rattle.model.specs.Lookup.{activityAt};
 ghost use Rattle.book.specs.Plan.{IsPlanOf};
-ghost use Rattle.model.specs.declared.Way.the-variants.{Planned, Actual, Remaining};
 ghost use Rattle.model.specs.Tree.{parents};
 ghost use Rattle.tree.specs.Figures.{MarksLeaves};
-ghost use Rattle.activities.specs.Columns.{parentNumber, calendarNumber, firstDate, lastDate};
+ghost use Rattle.activities.specs.Columns.{parentNumber};
 ghost use Rattle.activities.specs.Schedule.{percentGiven, percentBits, percentOf, scheduleRow, scheduleOf, entryAt, firstIn, lastIn};
 
 // The numbers of an activity, and the places among them; the dates are first and last, Planned, Actual and Remaining.
-pub const WIDTH: usize = 13;
+pub const SCHEDULE_WIDTH: usize = 13;
 
 pub const PARENT: usize = 0;
 
@@ -118,18 +120,6 @@ fn row_of(date: OptionalNumber, activity: Activity) -> [u64; 13]
     ]
 }
 
-// A row set at a place.
-fn set_row(row: &[u64; 13], at: usize, out: &mut [u64])
-    requires { ⌜ (length (now row) ≡ 13) × (at + 12 < length (now out)) ⌝ }
-    ensures { λ r. ⌜ now (out .exit) ≡ sets (now (out .entry)) at (now (row .entry)) ⌝ }
-{
-    let mut k = 0;
-    while k < 13 {
-        out[at + k] = row[k];
-        k += 1;
-    }
-}
-
 // One row after the other, in a book with so many calendars and this data date.
 fn fill_rows(book: &[u8], list: Section, calendars: u64, date: OptionalNumber, out: &mut [u64])
     requires { ⌜ length (now out) ≡ list .count * 13 ⌝ }
@@ -141,7 +131,7 @@ fn fill_rows(book: &[u8], list: Section, calendars: u64, date: OptionalNumber, o
     while i < count {
         let a = read_activity(book, next, calendars, count);
         let row = row_of(date, a);
-        set_row(&row, i as usize * WIDTH, out);
+        put_row(&row, i as usize * SCHEDULE_WIDTH, out);
         next = a.next;
         i += 1;
     }
@@ -156,12 +146,31 @@ pub fn fill_schedule(book: &[u8], data_date: OptionalNumber, plan: Plan, out: &m
     fill_rows(book, plan.activities, plan.calendars.count, data_date, out);
 }
 
+// The row of one activity alone.
+pub fn row_at(book: &[u8], data_date: OptionalNumber, plan: Plan, i: u64) -> [u64; 13]
+    requires { ⌜ IsPlanOf (now book) data_date plan ⌝ }
+    requires { ⌜ i < plan .activities .count ⌝ }
+    ensures { λ r. ⌜ r ≡ scheduleRow (content (now (book .entry)) .dataDate) (activityAt (content (now (book .entry))) i) ⌝ }
+{
+    let calendars = plan.calendars.count;
+    let list = plan.activities;
+    let activities = list.count;
+    let first = list.first;
+    let element = Element::Activity {
+        calendars,
+        activities,
+    };
+    let at = skip_all(book, first, element, i);
+    let activity = read_activity(book, at, calendars, activities);
+    row_of(data_date, activity)
+}
+
 // Number k of activity i.
 pub fn entry(schedule: &[u64], i: usize, k: usize) -> u64
     requires { ⌜ i * 13 + k < length (now schedule) ⌝ }
     ensures { λ r. ⌜ r ≡ entryAt (now (schedule .entry)) i k ⌝ }
 {
-    schedule[i * WIDTH + k]
+    schedule[i * SCHEDULE_WIDTH + k]
 }
 
 // The first date of its days; 0 where it has none.
@@ -169,7 +178,7 @@ pub fn first_at(schedule: &[u64], i: usize, way: Way) -> u64
     requires { ⌜ i * 13 + 12 < length (now schedule) ⌝ }
     ensures { λ r. ⌜ r ≡ firstIn (now (schedule .entry)) way i ⌝ }
 {
-    schedule[i * WIDTH + DATES + way_number(way) * 2]
+    schedule[i * SCHEDULE_WIDTH + DATES + way_number(way) * 2]
 }
 
 // The last date of its span.
@@ -177,24 +186,24 @@ pub fn last_at(schedule: &[u64], i: usize, way: Way) -> u64
     requires { ⌜ i * 13 + 12 < length (now schedule) ⌝ }
     ensures { λ r. ⌜ r ≡ lastIn (now (schedule .entry)) way i ⌝ }
 {
-    schedule[i * WIDTH + DATES + 1 + way_number(way) * 2]
+    schedule[i * SCHEDULE_WIDTH + DATES + 1 + way_number(way) * 2]
 }
 
 pub fn status_at(schedule: &[u64], i: usize) -> Status
     requires { ⌜ i * 13 + 12 < length (now schedule) ⌝ }
     ensures { λ r. ⌜ r ≡ statusOf (entryAt (now (schedule .entry)) i 8) ⌝ }
 {
-    status_of(schedule[i * WIDTH + STATUS])
+    status_of(schedule[i * SCHEDULE_WIDTH + STATUS])
 }
 
 pub fn percent_at(schedule: &[u64], i: usize) -> OptionalAmount
     requires { ⌜ i * 13 + 12 < length (now schedule) ⌝ }
     ensures { λ r. ⌜ amountOption r ≡ percentOf (entryAt (now (schedule .entry)) i 11) (entryAt (now (schedule .entry)) i 12) ⌝ }
 {
-    if schedule[i * WIDTH + GIVEN] == 0 {
+    if schedule[i * SCHEDULE_WIDTH + GIVEN] == 0 {
         return OptionalAmount::Absent;
     }
-    OptionalAmount::Present(from_bits(schedule[i * WIDTH + PERCENT]))
+    OptionalAmount::Present(from_bits(schedule[i * SCHEDULE_WIDTH + PERCENT]))
 }
 
 // The parents: an index, or 500 for none.
@@ -204,7 +213,7 @@ pub fn copy_parents(schedule: &[u64], out: &mut [u64])
 {
     let mut i = 0;
     while i < out.len() {
-        out[i] = schedule[i * WIDTH + PARENT];
+        out[i] = schedule[i * SCHEDULE_WIDTH + PARENT];
         i += 1;
     }
 }
@@ -214,11 +223,11 @@ pub fn parent_marks(schedule: &[u64]) -> [u64; 500]
     requires { ⌜ length (now schedule) ≤ 6500 ⌝ }
     ensures { λ r. ⌜ ((book : Book) → now (schedule .entry) ≡ scheduleOf book → MarksLeaves r (parents book)) ⌝ }
 {
-    let n = schedule.len() / WIDTH;
+    let n = schedule.len() / SCHEDULE_WIDTH;
     let mut marks = [0u64; 500];
     let mut i = 0;
     while i < n {
-        let parent = schedule[i * WIDTH + PARENT];
+        let parent = schedule[i * SCHEDULE_WIDTH + PARENT];
         if parent < 500 {
             marks[parent as usize] = 1;
         }

@@ -1,6 +1,6 @@
 // The stretch of dates that the spans of the activities take.
 use crate::Stretch;
-use crate::schedule::WIDTH;
+use crate::schedule::SCHEDULE_WIDTH;
 ghost use mathlib.Core.Path.{_≡_};
 ghost use Prim.Native.Nat.{_+_, _*_, _<_, min, max};
 ghost use lib.ListN.{length, getD};
@@ -75,7 +75,7 @@ fn widen_ways(schedule: &[u64], i: usize, known: Stretch) -> Stretch
     requires { ⌜ i * 13 + 12 < length (now schedule) ⌝ }
     ensures { λ r. ⌜ r ≡ widenedWays (now (schedule .entry)) i known ⌝ }
 {
-    let k = i * WIDTH;
+    let k = i * SCHEDULE_WIDTH;
     let planned = widen(known, schedule[k + 2], schedule[k + 3]);
     let actual = widen(planned, schedule[k + 4], schedule[k + 5]);
     widen(actual, schedule[k + 6], schedule[k + 7])
@@ -85,7 +85,7 @@ fn widen_ways(schedule: &[u64], i: usize, known: Stretch) -> Stretch
 pub fn stretch_all(schedule: &[u64]) -> Stretch
     ensures { λ r. ⌜ ((book : Book) → InRange book → now (schedule .entry) ≡ scheduleOf book → (way : Way) → CoversSpans (firstIn (now (schedule .entry)) way) (lastIn (now (schedule .entry)) way) r) ⌝ }
 {
-    let n = schedule.len() / WIDTH;
+    let n = schedule.len() / SCHEDULE_WIDTH;
     let mut known = Stretch {
         from: 47482,
         to: 10956,

@@ -1,36 +1,19 @@
 -- A column: what a loop that sets an entry a turn keeps.
-use Prim.Native.Nat.{ℕ, zero, suc, _+_, _≤_, _<_}
-use native.Mathlib.Nat.{zero-add}
+use Prim.Native.Nat.{ℕ, _+_, _≤_, _<_}
 use native.Mathlib.Omega.{arith}
 use native.Mathlib.Decide.{decLt}
-use mathlib.Core.Path.{_≡_, refl, ap, sym, _∙_}
+use mathlib.Core.Path.{_≡_, refl, sym, _∙_}
 use mathlib.Core.List.{List, map}
 use lib.ListN.{length, getD, set, length-set, List·getD-eq-default}
 use lib.Seq.{getD-set-same, getD-set-other, ext-getD}
-use Rattle.model.specs.Lists.{span}
+use Rattle.lists.specs.Lists.{span}
+use Rattle.lists.proofs.Spans.{made-length, made-at}
 
 -- ---- a column of what a function says of each index
 
 module _ {A : Type 0} (f : ℕ → A) where
-  column-length : (a n : ℕ) → length (map f (span a n)) ≡ n
-  unfolding span
-  column-length a zero = refl
-  column-length a (suc n) = ap suc (column-length (suc a) n)
-
-  column-from : (d : A) (a n i : ℕ) → i < n → getD (map f (span a n)) i d ≡ f (a + i)
-  unfolding span
-  column-from d a zero i h = absurd (omega arith)
-  column-from d a (suc n) zero h = let e : a ≡ a + 0 = omega arith in ap f e
-  column-from d a (suc n) (suc i) h = let e : suc a + i ≡ a + suc i = omega arith in column-from d (suc a) n i (omega arith) ∙ ap f e
-
-  pub entries-length : (n : ℕ) → length (map f (span 0 n)) ≡ n
-  entries-length n = column-length 0 n
-
-  pub entry-at : (d : A) (n i : ℕ) → i < n → getD (map f (span 0 n)) i d ≡ f i
-  entry-at d n i h = column-from d 0 n i h ∙ ap f (zero-add i)
-
   pub entries-are : (d : A) (t : List A) (n : ℕ) → length t ≡ n → ((i : ℕ) → i < n → getD t i d ≡ f i) → t ≡ map f (span 0 n)
-  entries-are d t n l h = ext-getD d t (map f (span 0 n)) (l ∙ sym (entries-length n)) (λ i k. h i (omega arith) ∙ sym (entry-at d n i (omega arith)))
+  entries-are d t n l h = ext-getD d t (map f (span 0 n)) (l ∙ sym (made-length f n)) (λ i k. h i (omega arith) ∙ sym (made-at f d n i (omega arith)))
 
 -- ---- the loop
 

@@ -9,15 +9,15 @@ use mathlib.Core.List.{List, [], _∷_, map, flatMap}
 use mathlib.Core.Option.{Option, none, some, Option·getD, orElse}
 use lib.Dec.{eqb}
 use lib.IntN.{ℤ, pos}
-use lib.ListN.{length, getD, set, length-map, List·getD-eq-default}
+use lib.ListN.{length, getD, set, List·getD-eq-default}
 use lib.Seq.{sets}
 use Rattle.format.specs.Inverse.{Given}
 use Rattle.format.specs.InRange.{IsDate, Every, BaselineLineInRange, BaselineInRange, InRange}
-use Rattle.format.specs.Book.{Activity, BaselineLine, Book}
+use Rattle.format.specs.Book.{BaselineLine, Book}
 use Rattle.format.specs.Format as layout
 use Rattle.format.specs.Verdict.{content}
 use Rattle.money.specs.declared.costs.Cost.{Cost}
-use Rattle.money.specs.Words.{bits, ofBits}
+use Rattle.money.specs.Words.{ofBits}
 use Rattle.money.proofs.Bits.{there-and-back}
 use Rattle.fields.specs.declared.OptionalNumber.{OptionalNumber}
 use Rattle.book.specs.declared.Section.{Section}
@@ -28,19 +28,21 @@ use Rattle.book.specs.Layout.{linesOf}
 use Rattle.book.specs.Plan.{IsPlanOf, IsBaselineOf}
 use Rattle.book.proofs.Plan.{activities-count, lines-in-range}
 use Rattle.model.specs.declared.Way.the-variants.{Planned}
-use Rattle.model.specs.Lists.{span}
+use Rattle.model.proofs.Tree.{parents-count}
+use Rattle.lists.specs.Lists.{span}
 use Rattle.model.specs.Lookup.{noActivity, activityAt, calendarAt}
 use Rattle.model.specs.Calendar.{calendarOf}
 use Rattle.model.specs.Days.{dayList, plannedDays}
-use Rattle.model.specs.Tree.{parents, indices, isLeaf}
+use Rattle.model.specs.Tree.{parents, isLeaf}
 use Rattle.model.specs.Costs.{ownCost, costOf}
 use Rattle.model.specs.Planned.{firstLine, lineOf, budgetBy, budgetOf, daysBy, listedDays}
 use Rattle.model.specs.Variances.{lastAmong, lastLine}
-use Rattle.model.proofs.Lists.{span-in, map-same}
+use Rattle.lists.proofs.Spans.{span-in, made-length, made-at}
+use Rattle.lists.proofs.Lists.{map-same}
 use Rattle.model.proofs.Costs.{leaf-cost}
 use Rattle.flat.proofs.Tables.{flat-same}
 use Rattle.tree.specs.Figures.{figureOf, MarksLeaves}
-use Rattle.tree.proofs.Spans.{rows-length, rows-at}
+use Rattle.flat.proofs.Spans.{rows-length, rows-at}
 use Rattle.activities.specs.declared.Stretch.{Stretch}
 use Rattle.activities.specs.Columns.{calendarNumber, firstDate, lastDate, daysIn}
 use Rattle.activities.specs.Schedule.{scheduleOf}
@@ -49,7 +51,6 @@ use Rattle.activities.proofs.Days.{date-days}
 use Rattle.activities.proofs.Scheduling.{calendar-at, first-at, last-at}
 use Rattle.baseline.specs.Lines.{lineBy, lineRow, linesTable, IsLines}
 use Rattle.baseline.specs.Listed.{byLine, startOf, finishOf, listedFirst, listedLast, listedRow, listedOf, firstAt, lastAt, numberAt, ifLeaf, ofLeaf, budgetsOf, PlannedCosts}
-use Rattle.baseline.proofs.Entries.{entries-length, entry-at}
 
 -- ---- lines in range
 
@@ -101,16 +102,12 @@ three-set out at z e f = rw (e, f, add-one at, add-two at) refl
 -- ---- of any book
 
 module _ (b : Book) where
-  pub parents-count : length (parents b) ≡ length (b .activities)
-  unfolding parents
-  parents-count = length-map (b .activities) (λ (a : Activity). a .parent)
-
   -- number j of the line of activity i
   pub lined-at : (last : Bool) {lines : List ℕ} → lines ≡ linesTable last b → (i j : ℕ) → i < length (b .activities) → j < 5 → getD lines (i * 5 + j) 0 ≡ getD (lineRow (lineBy last b i)) j 0
   unfolding linesTable
   lined-at last e i j h l =
       ap (λ (t : List ℕ). getD t (i * 5 + j) 0) e
-      ∙ rows-at 5 (λ k. lineRow (lineBy last b k)) (λ k. five (lineBy last b k)) (length (parents b)) i j 0 (omega (arith, parents-count)) l
+      ∙ rows-at 5 (λ k. lineRow (lineBy last b k)) (λ k. five (lineBy last b k)) (length (parents b)) i j 0 (omega (arith, parents-count b)) l
     where
       five : (o : Option BaselineLine) → length (lineRow o) ≡ 5
       five none = refl
@@ -144,7 +141,7 @@ module _ (b : Book) where
     unfolding listedOf
     spans-listed n c =
         flat-same (spanIn schedule lines) (listedRow b) (span 0 n) (λ i m. let k = span-in 0 n i m in span-row i (omega arith))
-        ∙ ap (λ (k : ℕ). flatMap (listedRow b) (span 0 k)) (sym (parents-count ∙ c))
+        ∙ ap (λ (k : ℕ). flatMap (listedRow b) (span 0 k)) (sym (parents-count b ∙ c))
 
   -- ---- the budgets, from the marks of the parents, the lines and the planned costs
 
@@ -152,7 +149,7 @@ module _ (b : Book) where
     budget-is : (i : ℕ) → i < length (b .activities) → budgetIn marks lines costs i ≡ ofLeaf b (budgetOf b) i
     unfolding budgetOf ownCost
     budget-is i h =
-        rw (m i (omega (arith, parents-count)), line-marked false t i h, lined-at false t i 4 h (omega arith), p .at i h)
+        rw (m i (omega (arith, parents-count b)), line-marked false t i h, lined-at false t i 4 h (omega arith), p .at i h)
         (go (isLeaf (parents b) i) (leaf-cost b i) (lineOf b i) (line-range r false i))
       where
         go :
@@ -166,27 +163,27 @@ module _ (b : Book) where
     unfolding budgetsOf
     budgets-listed n c =
         map-same (budgetIn marks lines costs) (ofLeaf b (budgetOf b)) (span 0 n) (λ i k. let l = span-in 0 n i k in budget-is i (omega arith))
-        ∙ ap (λ (k : ℕ). map (ofLeaf b (budgetOf b)) (span 0 k)) (sym (parents-count ∙ c))
+        ∙ ap (λ (k : ℕ). map (ofLeaf b (budgetOf b)) (span 0 k)) (sym (parents-count b ∙ c))
 
   -- ---- what the tables hold
 
   module _ {budgets : List ℤ} (e : budgets ≡ budgetsOf b) where
     pub budgets-long : length budgets ≡ length (b .activities)
     unfolding budgetsOf
-    budgets-long = ap length e ∙ entries-length (ofLeaf b (budgetOf b)) (length (parents b)) ∙ parents-count
+    budgets-long = ap length e ∙ made-length (ofLeaf b (budgetOf b)) (length (parents b)) ∙ parents-count b
 
     pub budget-at : (i : ℕ) → i < length (b .activities) → figureOf budgets i ≡ ofLeaf b (budgetOf b) i
     unfolding budgetsOf
-    budget-at i h = ap (λ (t : List ℤ). figureOf t i) e ∙ entry-at (ofLeaf b (budgetOf b)) (pos 0) (length (parents b)) i (omega (arith, parents-count))
+    budget-at i h = ap (λ (t : List ℤ). figureOf t i) e ∙ made-at (ofLeaf b (budgetOf b)) (pos 0) (length (parents b)) i (omega (arith, parents-count b))
 
   module _ {listed : List ℕ} (e : listed ≡ listedOf b) where
     pub listed-long : length listed ≡ length (b .activities) * 3
     unfolding listedOf listedRow
-    listed-long = ap length e ∙ rows-length 3 (listedRow b) (λ i. refl) (length (parents b)) ∙ ap (λ (k : ℕ). k * 3) parents-count
+    listed-long = ap length e ∙ rows-length 3 (listedRow b) (λ i. refl) (length (parents b)) ∙ ap (λ (k : ℕ). k * 3) (parents-count b)
 
     listed-at : (i j : ℕ) → i < length (b .activities) → j < 3 → getD listed (i * 3 + j) 0 ≡ getD (listedRow b i) j 0
     unfolding listedOf listedRow
-    listed-at i j h l = ap (λ (t : List ℕ). getD t (i * 3 + j) 0) e ∙ rows-at 3 (listedRow b) (λ k. refl) (length (parents b)) i j 0 (omega (arith, parents-count)) l
+    listed-at i j h l = ap (λ (t : List ℕ). getD t (i * 3 + j) 0) e ∙ rows-at 3 (listedRow b) (λ k. refl) (length (parents b)) i j 0 (omega (arith, parents-count b)) l
 
     pub listed-first : (i : ℕ) → i < length (b .activities) → firstAt listed i ≡ listedFirst b i
     unfolding listedRow

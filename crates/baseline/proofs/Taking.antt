@@ -12,16 +12,16 @@ use mathlib.Core.Option.{Option, none, some, Option·getD, orElse}
 use lib.Dec.{eqb}
 use lib.ListN.{length, getD, set, drop, take, replicate, length-set, drop-of-length-le}
 use lib.Seq.{sets, length-sets, getD-set-same, getD-set-other, drop-cons}
-use borrow.Author.Tests.{eq-eqb, eqb-true, eqb-false}
+use borrow.Author.Tests.{eq-eqb, eqb-true}
 use Rattle.format.specs.InRange.{Every, BaselineLineInRange}
 use Rattle.format.specs.Book.{BaselineLine, Book}
 use Rattle.money.specs.Words.{bits}
-use Rattle.model.specs.Lists.{span}
-use Rattle.model.specs.Tree.{parents, indices}
+use Rattle.lists.specs.Lists.{span}
+use Rattle.model.specs.Tree.{parents}
 use Rattle.model.specs.Planned.{firstLine, lineOf}
 use Rattle.model.specs.Variances.{lastAmong, lastLine}
 use Rattle.flat.proofs.Cells.{row-inside, cell-apart}
-use Rattle.tree.proofs.Spans.{rows-length, rows-at, rows-cells}
+use Rattle.flat.proofs.Spans.{rows-length, rows-at, rows-cells}
 use Rattle.baseline.specs.Lines.{lineBy, lineRow, linesTable, counts, taken, Zeros}
 
 -- ---- a row set in a table

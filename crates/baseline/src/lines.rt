@@ -17,7 +17,7 @@ ghost use Rattle.book.specs.Layout.{linesOf};
 ghost use Rattle.baseline.specs.Lines as table;
 
 // The numbers of a line, and the places among them: 1 where there is a line, its start, its finish, its working minutes, the bits of its cost.
-pub const WIDTH: usize = 5;
+pub const LINE_WIDTH: usize = 5;
 
 pub const START: usize = 1;
 
@@ -59,7 +59,7 @@ fn take_line(line: BaselineLine, last: bool, out: &mut [u64])
     requires { ⌜ line .activity * 5 + 4 < length (now out) ⌝ }
     ensures { λ r. ⌜ now (out .exit) ≡ table.taken last (now (out .entry)) (baselineLineOf line) ⌝ }
 {
-    let at = line.activity as usize * WIDTH;
+    let at = line.activity as usize * LINE_WIDTH;
     if counts(last, out[at]) {
         out[at] = 1;
         out[at + START] = line.start;

@@ -1,10 +1,13 @@
 // The listed spans of the activities with their calendars, and the budgets of the leaves.
+use crate::lines::LINE_WIDTH;
 use crate::lines::lines_of;
 use crate::lines::take_lines;
+use activities::schedule::SCHEDULE_WIDTH;
 use activities::schedule::parent_marks;
 use answers::open::Opened;
 use book::Section;
 use money::words::from_bits;
+use tree::table::COST_WIDTH;
 ghost use Prim.Native.Nat.{_*_, _≤_};
 ghost use mathlib.Core.Path.{_≡_};
 ghost use mathlib.Core.Bool.{false, cond};
@@ -14,14 +17,13 @@ ghost use Rattle.format.specs.Book.{Book};
 ghost use Rattle.format.specs.InRange.{InRange};
 ghost use Rattle.format.specs.Verdict.{content};
 ghost use Rattle.money.specs.Words.{ofBits};
-ghost use Rattle.book.specs.Plan.{IsPlanOf};
 ghost use Rattle.activities.specs.Schedule.{scheduleOf};
 ghost use Rattle.answers.specs.Opened.{IsOpened};
 ghost use Rattle.baseline.specs.Lines.{linesTable, Zeros, IsLines};
 ghost use Rattle.baseline.specs.Listed.{listedOf, ifLeaf, budgetsOf, PlannedCosts};
 
 // The numbers of an activity: the first date, the last, the calendar.
-pub const WIDTH: usize = 3;
+pub const LISTED_WIDTH: usize = 3;
 
 // What a line says, by its mark, else what the schedule says.
 fn lined_or(mark: u64, lined: u64, early: u64) -> u64
@@ -53,9 +55,9 @@ fn fill_spans(schedule: &[u64], lines: &[u64], n: usize, out: &mut [u64])
 {
     let mut i = 0;
     while i < n {
-        let row = i * 13;
-        let line = i * 5;
-        let at = i * WIDTH;
+        let row = i * SCHEDULE_WIDTH;
+        let line = i * LINE_WIDTH;
+        let at = i * LISTED_WIDTH;
         let mark = lines[line];
         out[at] = lined_or(mark, lines[line + 1], schedule[row + 2]);
         out[at + 1] = lined_or(mark, lines[line + 2], schedule[row + 3]);
@@ -72,8 +74,8 @@ fn fill_budgets(schedule: &[u64], lines: &[u64], costs: &[i64], out: &mut [i64])
     let parents = parent_marks(schedule);
     let mut i = 0;
     while i < out.len() {
-        let line = i * 5;
-        let cost = costs[i * 3];
+        let line = i * LINE_WIDTH;
+        let cost = costs[i * COST_WIDTH];
         out[i] = frozen_or(parents[i], lines[line], lines[line + 4], cost);
         i += 1;
     }
@@ -125,7 +127,7 @@ pub fn list_spans(
         lines_of(opened.ledger.baseline),
         schedule,
         costs,
-        &mut lines[..n * 5],
+        &mut lines[..n * LINE_WIDTH],
         listed,
         budgets,
     );

@@ -3,5 +3,4 @@ pub mod days;
 pub mod effect;
 pub mod rates;
 pub mod repeated;
-pub mod resources;
 pub mod span;

@@ -1,8 +1,7 @@
 -- `set_three` meets its contract: each follows the one before.
 use Prim.Native.Nat.{ℕ, suc, _+_}
-use mathlib.Core.Path.{_≡_, ap, ap₂, _∙_}
+use mathlib.Core.Path.{_≡_, ap₂}
 use native.Mathlib.Omega.{arith}
-use lib.IntN.{ℤ}
 use lib.ListN.{set, length-set}
 use mir.Syntax.{w64}
 use Rattle.integer.specs.Linear.{seen, back}

@@ -1,7 +1,7 @@
 -- `copy_parents` meets its contract: one parent a turn.
 use Prim.Native.Nat.{_-_}
 use native.Mathlib.Omega.{arith}
-use mathlib.Core.Path.{refl, sym}
+use mathlib.Core.Path.{refl}
 use lib.ListN.{length}
 use borrow.Author.Needs.{needs}
 use Rattle.activities.proofs.Rows.{Copied, copied-none, copied-more}

@@ -1,8 +1,7 @@
 -- `fill_rows` meets its contract: one activity a turn.
-use Prim.Native.Nat.{ℕ, _*_, _-_}
+use Prim.Native.Nat.{_*_, _-_}
 use native.Mathlib.Omega.{arith}
 use mathlib.Core.Path.{ap, sym, _∙_}
-use mathlib.Core.List.{List}
 use lib.ListN.{length}
 use lib.Seq.{sets}
 use borrow.Author.Needs.{needs}
@@ -24,14 +23,17 @@ abbrev μ-loop : tie.MeasureT-loop
 loop-holds : tie.Need-loop-holds Inv-loop μ-loop
 loop-holds c = rows-none _ _ _ _ _ _ (row-wide _) _ (c .before .before .pre)
 
-mul-set-row : tie.Need-mul-set-row Inv-loop μ-loop
-mul-set-row c = search needs
+slice-aggregate-put-row : tie.Need-slice-aggregate-put-row Inv-loop μ-loop
+slice-aggregate-put-row c = sym (ap length (c .before .row-of .ensures) ∙ row-wide _ _)
 
-set-row-requires : tie.Need-set-row-requires Inv-loop μ-loop
-set-row-requires c κs =
+mul-put-row : tie.Need-mul-put-row Inv-loop μ-loop
+mul-put-row c = search needs
+
+put-row-requires : tie.Need-put-row-requires Inv-loop μ-loop
+put-row-requires c κs =
     let row = c .before .before in
     let loop = row .before .before .before .loop in
-    (ap length (row .row-of .ensures) ∙ row-wide _ _, omega (arith, loop .inv .long, row .before .before .loop-test .taken))
+    omega (arith, ap length (row .row-of .ensures) ∙ row-wide _ _, loop .inv .long, row .before .before .loop-test .taken)
 
 add-i : tie.Need-add-i Inv-loop μ-loop
 add-i c = search needs
@@ -45,7 +47,7 @@ loop-again c =
     let row = set .before .before .before in
     let read = row .before in
     let loop = read .before .before .loop in
-    rows-more (loop .inv) (row-wide _) (read .before .loop-test .taken) (read .read-activity .ensures) (set .set-row .ensures ∙ ap (sets (loop .out) (loop .i * 13)) (row .row-of .ensures))
+    rows-more (loop .inv) (row-wide _) (read .before .loop-test .taken) (read .read-activity .ensures) (set .put-row .ensures ∙ ap (sets (loop .out) (loop .i * 13)) (row .row-of .ensures))
 
 same-length : tie.Need-same-length Inv-loop μ-loop
 same-length c = c .before .loop .inv .long ∙ sym (c .before .before .before .before .pre)
@@ -63,8 +65,9 @@ fill-rows-spec =
     loop-holds
     (λ c κs. tt)
     (λ c κs. tt)
-    mul-set-row
-    set-row-requires
+    slice-aggregate-put-row
+    mul-put-row
+    put-row-requires
     add-i
     loop-less
     loop-again

@@ -1,5 +1,5 @@
 -- `percent_at` meets its contract: by the first of the two numbers.
-use Prim.Native.Nat.{ℕ, _+_, _*_}
+use Prim.Native.Nat.{_+_, _*_}
 use mathlib.Core.Path.{ap, _∙_}
 use mathlib.Core.Option.{some}
 use lib.IntN.{ℤ}

@@ -3,7 +3,7 @@ use Prim.Native.Nat.{_-_}
 use native.Mathlib.Omega.{arith}
 use mathlib.Core.Path.{_≡_, ap, sym, _∙_}
 use mathlib.Core.List.{List, foldl}
-use lib.ListN.{length, getD}
+use lib.ListN.{getD}
 use Rattle.format.specs.Codec.{alike}
 use Rattle.format.specs.Format.{baselineLine}
 use Rattle.format.specs.InRange.{BaselineLineInRange}

@@ -3,9 +3,9 @@ use Prim.Native.Nat.{_+_, _*_, _-_}
 use native.Mathlib.Omega.{arith}
 use mathlib.Core.Path.{_≡_, refl, sym, _∙_}
 use lib.ListN.{length, getD, length-set}
-use Rattle.model.specs.Lists.{span}
+use Rattle.lists.specs.Lists.{span}
 use Rattle.flat.proofs.Written.{Written}
-use Rattle.tree.proofs.Spans.{rows-none, rows-more, rows-end}
+use Rattle.flat.proofs.Spans.{rows-none, rows-more, rows-end}
 use Rattle.activities.proofs.Scheduling.{schedule-length}
 use Rattle.baseline.proofs.Listing.{spanIn, three-set, spans-listed}
 use Rattle.baseline.proofs.listed.fill_spans.Statement.{statement}

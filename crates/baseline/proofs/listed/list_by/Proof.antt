@@ -6,7 +6,7 @@ use lib.ListN.{length}
 use borrow.Author.Needs.{needs}
 use Rattle.format.specs.Verdict.{content}
 use Rattle.activities.proofs.Scheduling.{schedule-length}
-use Rattle.baseline.proofs.Listing.{parents-count}
+use Rattle.model.proofs.Tree.{parents-count}
 use Rattle.baseline.proofs.listed.list_by.Statement.{statement}
 use Rattle.baseline.proofs.listed.list_by.Tie as tie
 

@@ -1,6 +1,5 @@
 -- `fill_assignments` meets its contract: one assignment a turn.
 use Prim.Native.Nat.{_-_}
-use native.Mathlib.Omega.{arith}
 use mathlib.Core.Path.{sym, _∙_}
 use borrow.Author.Needs.{needs}
 use Rattle.format.specs.Format.{assignment}

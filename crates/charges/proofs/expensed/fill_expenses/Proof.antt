@@ -1,6 +1,5 @@
 -- `fill_expenses` meets its contract: one expense a turn.
 use Prim.Native.Nat.{_-_}
-use native.Mathlib.Omega.{arith}
 use mathlib.Core.Path.{sym, _∙_}
 use borrow.Author.Needs.{needs}
 use Rattle.format.specs.Format.{expense}
