@@ -1,7 +1,5 @@
 pub mod Reading
-pub mod Columns
 pub mod Charged
-pub mod Turns
-pub mod Nothing
+pub mod Expensing
 pub mod Owned
 pub mod Answering

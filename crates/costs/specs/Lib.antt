@@ -1,5 +1,3 @@
-pub mod Columns
-pub mod Charges
+pub mod Expensed
 pub mod Figures
-pub mod Arguments
 pub mod Answered

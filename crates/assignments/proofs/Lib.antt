@@ -1,0 +1,4 @@
+pub mod Reading
+pub mod Turns
+pub mod Nothing
+pub mod Planned
