@@ -1,14 +1,15 @@
 -- Dates that pass a test, between two dates: one date fewer at the start, and at the end.
 use Prim.Native.Nat.{ℕ, zero, suc, _+_, _-_, _≤_, _<_}
-use mathlib.Core.Path.{_≡_, refl, ap, ap₂, _∙_}
+use mathlib.Core.Path.{_≡_, refl, ap, _∙_}
 use mathlib.Core.Bool.{Bool, true, false}
 use mathlib.Core.List.{List, [], _∷_, _++_, map, append-nil}
 use native.Mathlib.Omega.{arith}
 use lib.ListN.{length, getD, length-append}
 use lib.Seq.{getD-append-seam}
-use Rattle.model.specs.Lists.{span, consIf, keep}
+use Rattle.lists.specs.Lists.{span, consIf, keep}
 use Rattle.model.specs.Days.{datesBetween, orAlone}
-use Rattle.model.proofs.Lists.{keep-append, map-same}
+use Rattle.lists.proofs.Lists.{keep-append, keep-alike as keep-agreeing, map-same}
+use Rattle.lists.proofs.Spans.{span-in}
 use Rattle.model.proofs.Days.{kept-between}
 use Rattle.prices.proofs.Shares.{span-split}
 use Rattle.bydate.specs.Listed.{Covers, IsSpan, spanOf}
@@ -110,12 +111,8 @@ span-is c = record { covers = c; counted = refl }
 -- ---- tests and functions that agree on the dates between two
 
 pub keep-alike : (p q : ℕ → Bool) (first last : ℕ) → ((d : ℕ) → first ≤ d → d ≤ last → p d ≡ q d) → keep p (datesBetween first last) ≡ keep q (datesBetween first last)
-unfolding keep span datesBetween
-keep-alike p q first last h = go first (last + 1 - first) (λ d a b. h d a (omega arith))
-  where
-    go : (a n : ℕ) → ((d : ℕ) → a ≤ d → d < a + n → p d ≡ q d) → keep p (span a n) ≡ keep q (span a n)
-    go a zero h = refl
-    go a (suc n) h = ap₂ (λ (b : Bool) (l : List ℕ). consIf b a l) (h a (omega arith) (omega arith)) (go (suc a) n (λ d k l. h d (omega arith) (omega arith)))
+unfolding datesBetween
+keep-alike p q first last h = keep-agreeing p q (span first (last + 1 - first)) (λ d m. let i = span-in first (last + 1 - first) d m in h d (i .0) (omega (arith, i .1)))
 
 pub map-alike :
     {B : Type 0} (f g : ℕ → B) (p : ℕ → Bool) (first last : ℕ) → ((d : ℕ) → first ≤ d → d ≤ last → f d ≡ g d) →

@@ -3,7 +3,7 @@ use Prim.Native.Nat.{ℕ, suc, _+_, _-_, _≤_, _<_}
 use mathlib.Core.Path.{_≡_, ap, _∙_}
 use mathlib.Core.List.{List, [], _++_, flatMap}
 use native.Mathlib.Omega.{arith}
-use Rattle.model.specs.Lists.{span}
+use Rattle.lists.specs.Lists.{span}
 
 module _ {A : Type 0} (f : ℕ → List A) (n : ℕ) where
   -- those from i on, of n

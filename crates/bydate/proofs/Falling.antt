@@ -6,7 +6,7 @@ use mathlib.Core.List.{List, [], _∷_, _++_, flatMap, zipWith, List·Memᴰ, Li
 use borrow.Author.Tests.{eqb-true}
 use lib.Dec.{eqb}
 use lib.IntN.{ℤ}
-use Rattle.holidays.specs.Holiday.{any}
+use Rattle.lists.specs.Lists.{any}
 use Rattle.model.specs.Amounts.{Dated, dated, isDated, isCharged}
 
 either : {P : Type 0} (a b : Bool) → (a ≡ true → P) → (b ≡ true → P) → (a || b) ≡ true → P

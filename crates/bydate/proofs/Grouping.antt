@@ -9,10 +9,11 @@ use borrow.Author.Tests.{eqb-true, eq-eqb, ne-eqb, lt-ltb}
 use lib.Dec.{ltb}
 use lib.ListN.{length, getD}
 use Rattle.format.specs.InRange.{Rising}
-use Rattle.model.specs.Lists.{consIf, keep}
+use Rattle.lists.specs.Lists.{consIf, keep}
 use Rattle.model.specs.Days.{datesBetween}
 use Rattle.model.specs.Amounts.{Dated, on, saturatedSum, isDated, isCharged, pointOn, pointsBetween, lastDay, points}
-use Rattle.model.proofs.Lists.{any-some, in-any, keep-none, keep-all, keep-append, keep-rises, map-same, got-in, rising-same}
+use Rattle.lists.proofs.Lists.{any-some, in-any, keep-none, keep-all, keep-append, map-same, got-in}
+use Rattle.model.proofs.Rising.{keep-rises, rising-same}
 use Rattle.model.proofs.Points.{point-dates, all-dates}
 
 abbrev daysOf : List Dated → List ℕ

@@ -2,7 +2,7 @@
 use Prim.Native.Nat.{ℕ, _+_, _*_, _-_, _/_, _≤_, _<_}
 use mathlib.Core.Path.{_≡_, refl, sym, ap, _∙_, subst}
 use mathlib.Core.Bool.{Bool, true, false, _||_}
-use mathlib.Core.List.{List, [], _∷_, _++_, map, map-append, append-nil, append-assoc, List·Memᴰ·head, Memᴰ·append-right}
+use mathlib.Core.List.{List, [], _∷_, _++_, map-append, append-nil, append-assoc, List·Memᴰ·head, Memᴰ·append-right}
 use native.Mathlib.Omega.{arith}
 use borrow.Author.Tests.{eqb-true, eqb-false, ne-eqb}
 use lib.Dec.{eqb}
@@ -15,11 +15,10 @@ use Rattle.integer.specs.Clamp.{clamp}
 use Rattle.integer.specs.Folds.{saturated, saturated-append}
 use Rattle.money.specs.Words.{bits, ofBits}
 use Rattle.money.proofs.Bits.{there-and-back}
-use Rattle.holidays.specs.Holiday.{any}
+use Rattle.lists.specs.Lists.{any, consIf, keep}
 use Rattle.calendar.specs.Tables.{one}
-use Rattle.model.specs.Lists.{consIf, keep}
 use Rattle.model.specs.Amounts.{Dated, on, amounts, isDated, isCharged, saturatedSum}
-use Rattle.model.proofs.Lists.{in-any, keep-append}
+use Rattle.lists.proofs.Lists.{in-any, keep-append}
 use Rattle.model.proofs.Saturating.{saturated-fits}
 use Rattle.bydate.specs.Laid.{markOf, sumOf, Holds, Laid}
 

@@ -1,7 +1,7 @@
 -- The rows of the months: the sum of a month's points, and the months from a date on.
 use Prim.Native.Nat.{ℕ, _+_, _-_, _≤_, _<_, min}
 use mathlib.Core.Path.{_≡_, refl, sym, ap, ap₂, _∙_}
-use mathlib.Core.Bool.{Bool, true, false}
+use mathlib.Core.Bool.{true, false}
 use mathlib.Core.List.{List, [], _∷_, _++_, map, map-append, List·Memᴰ, Memᴰ·of-map}
 use native.Mathlib.Omega.{arith}
 use lib.Dec.{ltb}
@@ -10,9 +10,8 @@ use lib.ListN.{length, length-map}
 use mir.Syntax.{w64}
 use Rattle.integer.specs.Clamp.{clamp}
 use Rattle.integer.specs.Folds.{saturated}
-use Rattle.holidays.specs.Holiday.{any}
+use Rattle.lists.specs.Lists.{any, span, consIf, keep}
 use Rattle.money.specs.Words.{ofBits}
-use Rattle.model.specs.Lists.{span, consIf, keep}
 use Rattle.model.specs.Days.{datesBetween}
 use Rattle.model.specs.Amounts.{Dated, on, amounts, saturatedSum, isCharged, lastDay, pointsBetween, points}
 use Rattle.model.specs.Months.{monthStart, inMonth}

@@ -1,18 +1,18 @@
 -- The points of what is laid onto a table, and the points between two dates where nothing falls outside a stretch.
-use Prim.Native.Nat.{ℕ, _+_, _*_, _-_, _≤_, _<_, min, max}
+use Prim.Native.Nat.{ℕ, _+_, _-_, _≤_, min, max}
 use mathlib.Core.Path.{_≡_, refl, ap, _∙_}
 use mathlib.Core.Bool.{Bool, true, false}
 use mathlib.Core.List.{List, [], map}
 use native.Mathlib.Omega.{arith}
 use lib.Dec.{eqb}
-use lib.ListN.{length, replicate, length-replicate}
+use lib.ListN.{replicate}
 use Rattle.money.specs.Words.{ofBits}
 use Rattle.money.proofs.Bits.{there-and-back}
 use Rattle.calendar.specs.Tables.{one}
-use Rattle.model.specs.Lists.{keep}
+use Rattle.lists.specs.Lists.{keep}
 use Rattle.model.specs.Days.{datesBetween}
 use Rattle.model.specs.Amounts.{Dated, on, isDated, isCharged, pointOn, pointsBetween}
-use Rattle.model.proofs.Lists.{keep-rises, rising-same}
+use Rattle.model.proofs.Rising.{keep-rises, rising-same}
 use Rattle.model.proofs.Days.{kept-between, between-kept}
 use Rattle.bydate.specs.Laid.{Holds, Laid}
 use Rattle.bydate.specs.Pointed.{isMarked, sumOn, pointsIn, Reaches}

@@ -10,15 +10,19 @@ use Rattle.model.specs.Lookup.{noCalendar}
 use Rattle.model.specs.Calendar.{isWorking}
 use Rattle.model.specs.Days.{workingDays, orAlone, dayList}
 use Rattle.calendar.specs.Tables.{ShowsAll}
-use Rattle.bydate.specs.Listed.{inRow, listedBetween}
+use Rattle.bydate.specs.Listed.{inRow, workedBetween, listedBetween}
 use Rattle.bydate.proofs.Dates.{keep-alike}
 use Rattle.bydate.proofs.Pointing.{is-one}
 
--- a calendar's row of the table lists its days
-pub row-listed : {calendars : List Calendar} {base end : ℕ} {days : List ℕ} → ShowsAll calendars base end days → (k : ℕ) → k < length calendars → (first last : ℕ) → base ≤ first → last ≤ end
-    → listedBetween (k * (end + 1 - base)) base days first last ≡ dayList (getD calendars k noCalendar) first last
-unfolding dayList workingDays
-row-listed {calendars} {base} {end} {days} w k h first last f t =
-    ap (orAlone first)
-    (keep-alike (inRow (k * (end + 1 - base)) base days) (isWorking (getD calendars k noCalendar)) first last
-    (λ d a b. ap (λ (n : ℕ). eqb n 1) (w .at k noCalendar h d (omega arith) (omega arith)) ∙ is-one (isWorking (getD calendars k noCalendar) d)))
+module _ {calendars : List Calendar} {base end : ℕ} {days : List ℕ} (w : ShowsAll calendars base end days) (k : ℕ) (h : k < length calendars) (first last : ℕ) (f : base ≤ first) (t : last ≤ end) where
+  -- a calendar's row of the table has its working dates
+  pub row-worked : workedBetween (k * (end + 1 - base)) base days first last ≡ workingDays (getD calendars k noCalendar) first last
+  unfolding workingDays
+  row-worked =
+      keep-alike (inRow (k * (end + 1 - base)) base days) (isWorking (getD calendars k noCalendar)) first last
+      (λ d a b. ap (λ (n : ℕ). eqb n 1) (w .at k noCalendar h d (omega arith) (omega arith)) ∙ is-one (isWorking (getD calendars k noCalendar) d))
+
+  -- and lists its days
+  pub row-listed : listedBetween (k * (end + 1 - base)) base days first last ≡ dayList (getD calendars k noCalendar) first last
+  unfolding dayList
+  row-listed = ap (orAlone first) row-worked

@@ -1,8 +1,8 @@
 -- Rows of points: how many numbers they are, what a loop keeps that writes them, and what is answered with them.
 use Prim.Native.Nat.{ℕ, suc, _+_, _*_, _/_, _^_, _≤_, _<_}
 use mathlib.Core.Path.{_≡_, refl, sym, ap, _∙_, subst}
-use mathlib.Core.Bool.{Bool, true, false, cond}
-use mathlib.Core.List.{List, [], _∷_, _++_, map, flatMap, append-assoc, append-nil}
+use mathlib.Core.Bool.{Bool, true, false}
+use mathlib.Core.List.{List, [], _∷_, _++_, map, flatMap}
 use native.Mathlib.Numerals.{add-one}
 use native.Mathlib.Omega.{arith}
 use lib.IntN.{ℤ}
@@ -11,7 +11,7 @@ use lib.Seq.{sets, sets-eq, length-sets}
 use Rattle.money.specs.Words.{bits, ofBits}
 use Rattle.money.proofs.Bits.{back-and-there}
 use Rattle.rows.specs.Rows.{numbers}
-use Rattle.model.specs.Lists.{consIf, keep}
+use Rattle.lists.specs.Lists.{consIf, keep}
 use Rattle.model.specs.Days.{datesBetween}
 use Rattle.model.specs.Amounts.{Dated, on}
 use Rattle.answers.specs.declared.Reply.{Reply}
@@ -19,7 +19,6 @@ use Rattle.answers.specs.declared.Reply.the-variants.{Accepted, Refused}
 use Rattle.answers.specs.Rows.{pointRow, pointRows}
 use Rattle.answers.specs.Calls.{Puts}
 use Rattle.answers.proofs.Sized.{Sized, sized, no-room, in-front}
-use Rattle.bydate.specs.Laid.{sumOf}
 use Rattle.bydate.specs.Pointed.{isMarked, sumOn, pointsIn, rowIf}
 use Rattle.bydate.proofs.Dates.{one-first, none-left}
 

@@ -5,7 +5,7 @@ use mathlib.Core.List.{List, _++_}
 use lib.ListN.{length, getD}
 use Rattle.money.specs.Words.{bits}
 use Rattle.calendar.specs.Tables.{one}
-use Rattle.model.specs.Lists.{keep}
+use Rattle.lists.specs.Lists.{keep}
 use Rattle.model.specs.Amounts.{Dated, isDated, isCharged, saturatedSum}
 
 abbrev pub markOf : ℕ → List ℕ → ℕ → ℕ

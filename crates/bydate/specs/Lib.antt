@@ -3,3 +3,4 @@ pub mod Laid
 pub mod Dealt
 pub mod Pointed
 pub mod Months
+pub mod Sizes

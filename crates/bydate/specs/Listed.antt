@@ -1,11 +1,11 @@
 -- The days that a table of working dates lists for a span. The table is row after row, a calendar to a row: 1 where the date works.
-use Prim.Native.Nat.{ℕ, _+_, _*_, _-_, _≤_, _<_}
+use Prim.Native.Nat.{ℕ, _+_, _-_, _≤_, _<_}
 use mathlib.Core.Path.{_≡_}
 use mathlib.Core.Bool.{Bool}
 use mathlib.Core.List.{List}
 use lib.Dec.{eqb}
 use lib.ListN.{length, getD}
-use Rattle.model.specs.Lists.{keep}
+use Rattle.lists.specs.Lists.{keep}
 use Rattle.model.specs.Days.{datesBetween, orAlone}
 use Rattle.bydate.specs.declared.days.Span.{Span}
 

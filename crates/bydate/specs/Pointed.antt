@@ -5,7 +5,7 @@ use mathlib.Core.List.{List, [], _∷_, map}
 use lib.Dec.{eqb}
 use lib.ListN.{length}
 use Rattle.money.specs.Words.{ofBits}
-use Rattle.model.specs.Lists.{keep}
+use Rattle.lists.specs.Lists.{keep}
 use Rattle.model.specs.Days.{datesBetween}
 use Rattle.model.specs.Amounts.{Dated, on}
 use Rattle.bydate.specs.Laid.{markOf, sumOf}

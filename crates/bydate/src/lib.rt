@@ -3,5 +3,6 @@ pub mod days;
 pub mod deal;
 pub mod months;
 pub mod points;
+pub mod sizes;
 pub mod spread;
 pub mod table;

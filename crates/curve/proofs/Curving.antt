@@ -1,6 +1,6 @@
 -- What is asked of an accepted book: its tables are as laying and writing need them, and the rows are the curve's.
-use Prim.Native.Nat.{ℕ, _+_, _*_, _-_, _≤_, _<_, min, max}
-use mathlib.Core.Path.{_≡_, sym, ap, ap₂, _∙_, subst}
+use Prim.Native.Nat.{ℕ, _+_, _*_, _≤_, _<_, min, max}
+use mathlib.Core.Path.{_≡_, sym, ap, ap₂, _∙_}
 use mathlib.Core.List.{List, [], map}
 use native.Mathlib.Nat.{mul-le-mul-right}
 use native.Mathlib.Omega.{arith}
@@ -10,11 +10,11 @@ use Rattle.format.specs.Book.{Book}
 use Rattle.format.specs.Format as layout
 use Rattle.format.specs.InRange.{Every, CalendarInRange, InRange}
 use Rattle.format.specs.Verdict.{content}
-use Rattle.format.proofs.Theorems.{content-in-range}
+use Rattle.format.proofs.Theorems.{content-limits, content-in-range}
 use Rattle.book.specs.Sections.{alikeIn}
 use Rattle.book.specs.Plan.{IsPlanOf}
 use Rattle.book.proofs.Plan.{calendars-count, calendars-least, calendars-most, activities-count, activities-most}
-use Rattle.model.specs.Lists.{keep}
+use Rattle.lists.specs.Lists.{keep}
 use Rattle.model.specs.Amounts.{Dated, isBetween}
 use Rattle.model.specs.Planned.{plannedByDay, running, plannedCurveBetween}
 use Rattle.calendar.specs.Tables.{ShowsAll}
@@ -33,10 +33,12 @@ use Rattle.costs.specs.Figures.{ownCostRow}
 use Rattle.costs.proofs.Owned.{own-length, own-at}
 use Rattle.baseline.specs.Listed.{firstAt, lastAt, PlannedCosts}
 use Rattle.curve.specs.declared.Asked.{Asked}
-use Rattle.curve.specs.Budgeted.{budgetsLaid, AreTabled}
+use Rattle.planned.specs.Tabled.{AreTabled}
+use Rattle.planned.proofs.Tabling.{lists-tabled}
+use Rattle.curve.specs.Budgeted.{budgetsLaid}
 use Rattle.curve.specs.Asking.{AreLists, IsAsked, widthOf}
 use Rattle.curve.proofs.Narrow.{curve-none, curve-narrow, curve-from}
-use Rattle.curve.proofs.Planning.{planned-within, lists-tabled, lists-planned}
+use Rattle.curve.proofs.Planning.{planned-within, lists-planned}
 
 module _ {s : List ℕ} {asked : Asked} {marks listed : List ℕ} {budgets : List ℤ} (a : IsAsked s asked marks listed budgets) where
   asked-plan : IsPlanOf s (asked .opened .date) (asked .opened .plan)
@@ -61,7 +63,7 @@ module _ {s : List ℕ} {asked : Asked} {marks listed : List ℕ} {budgets : Lis
 
   module _ {days : List ℕ} (room : asked .opened .plan .calendars .count * widthOf asked ≤ length days) where
     pub asked-tabled : AreTabled (asked .known .from) (widthOf asked) (length budgets) days listed
-    asked-tabled = lists-tabled (content s) (a .lists) asked-range (a .covers) some few most (rw (calendars-count asked-plan) room)
+    asked-tabled = lists-tabled (content s) (a .lists .spans) (a .lists .budgeted) asked-range (content-limits s (asked-plan .accepted)) (a .covers) (rw (calendars-count asked-plan) room)
 
     pub asked-planned : ShowsAll (alikeIn layout.calendar s (asked .opened .plan .calendars)) (asked .known .from) (asked .known .to) days
         → {before after : List ℕ} → Laid (asked .known .from) (budgetsLaid (asked .known .from) (widthOf asked) days marks listed budgets) before after

@@ -11,10 +11,10 @@ use lib.IntN.{ℤ, pos}
 use mir.Syntax.{w64}
 use Rattle.integer.specs.Folds.{saturated}
 use Rattle.format.specs.Book.{Book}
-use Rattle.model.specs.Lists.{consIf, keep}
+use Rattle.lists.specs.Lists.{consIf, keep}
 use Rattle.model.specs.Amounts.{Dated, amounts, isBetween, isCharged, pointsBetween, points}
 use Rattle.model.specs.Planned.{plannedByDay, running, plannedCurve, plannedCurveBetween}
-use Rattle.model.proofs.Lists.{keep-none, keep-keep, keep-same}
+use Rattle.lists.proofs.Lists.{keep-none, keep-keep, keep-same}
 use Rattle.model.proofs.Points.{all-dates, points-none}
 use Rattle.model.proofs.Curve.{isBefore, curve-between}
 use Rattle.bydate.proofs.Pointing.{points-narrow}

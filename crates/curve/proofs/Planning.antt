@@ -10,29 +10,32 @@ use lib.ListN.{length, getD}
 use Rattle.money.specs.Shares.{spread}
 use Rattle.format.specs.Book.{Book}
 use Rattle.format.specs.InRange.{InRange}
-use Rattle.model.specs.Lists.{span, consIf, keep}
+use Rattle.lists.specs.Lists.{span, consIf, keep}
 use Rattle.model.specs.Lookup.{calendarAt}
 use Rattle.model.specs.Amounts.{Dated, spreadOver, isCharged}
 use Rattle.model.specs.Tree.{parents, indices, isLeaf, leaves}
 use Rattle.model.specs.Planned.{budgetOf, listedDays, plannedAmounts, plannedByDay}
-use Rattle.model.proofs.Lists.{span-in, keep-in}
+use Rattle.lists.proofs.Spans.{span-in}
+use Rattle.lists.proofs.Lists.{keep-in}
 use Rattle.calendar.specs.Tables.{ShowsAll}
-use Rattle.calendar.proofs.Parts.{parts-room}
-use Rattle.tree.specs.Figures.{figureOf, isUnmarked}
+use Rattle.tree.specs.Figures.{figureOf}
 use Rattle.activities.specs.declared.Stretch.{Stretch}
 use Rattle.activities.specs.Stretches.{CoversSpans}
 use Rattle.activities.proofs.Days.{days-covered}
 use Rattle.bydate.specs.declared.days.Span.{Span}
 use Rattle.bydate.specs.Laid.{Laid}
-use Rattle.bydate.specs.Listed.{listedIn, spanOf, Covers, IsSpan}
+use Rattle.bydate.specs.Listed.{listedIn, spanOf, IsSpan}
 use Rattle.bydate.proofs.Dates.{span-is}
 use Rattle.bydate.proofs.Laying.{Laying, laying-none, laying-more, laying-past, laying-end, laid-same}
 use Rattle.bydate.proofs.Showing.{row-listed}
 use Rattle.bydate.proofs.Falling.{charged-some, charged-dated}
 use Rattle.bydate.proofs.Each.{eachFrom, each-next, each-end}
-use Rattle.baseline.specs.Listed.{firstAt, lastAt, numberAt, ofLeaf}
-use Rattle.baseline.proofs.Listing.{parents-count, budgets-long, budget-at, listed-long, listed-list, listed-date, listed-named, listed-days}
-use Rattle.curve.specs.Budgeted.{tabled, budgetLaid, budgetsLaid, AreTabled}
+use Rattle.baseline.specs.Listed.{firstAt, lastAt, numberAt}
+use Rattle.baseline.proofs.Listing.{budgets-long, budget-at, listed-list, listed-named, listed-days}
+use Rattle.model.proofs.Tree.{parents-count}
+use Rattle.planned.specs.Tabled.{tabled, AreTabled}
+use Rattle.planned.proofs.Tabling.{spans-begin}
+use Rattle.curve.specs.Budgeted.{budgetLaid, budgetsLaid}
 use Rattle.curve.specs.Asking.{AreLists}
 
 -- ---- leaf after leaf
@@ -71,9 +74,6 @@ module _ (base width : ℕ) (days marks listed : List ℕ) (budgets : List ℤ) 
 -- ---- a span, by what is read of the table
 
 module _ {base width n : ℕ} {days listed : List ℕ} (w : AreTabled base width n days listed) (i : ℕ) (h : i < n) where
-  pub span-asked : ((numberAt listed i ≤ 16) × (width ≤ 47482)) × Covers (numberAt listed i * width) base days (firstAt listed i) (lastAt listed i)
-  span-asked = ((w .few i h, w .wide), w .covers i h)
-
   pub span-has : {r : Span} → r ≡ spanOf days (numberAt listed i * width) base (firstAt listed i) (lastAt listed i) → IsSpan days r
   span-has e = subst (IsSpan days) (sym e) (span-is (w .covers i h))
 
@@ -93,7 +93,7 @@ module _ (b : Book) {marks listed : List ℕ} {budgets : List ℤ} (w : AreLists
     {known : Stretch} (c : CoversSpans (firstAt listed) (lastAt listed) known)
   where
     begins : (i : ℕ) → i < length (b .activities) → 0 < firstAt listed i
-    begins i h = omega (arith, listed-date b (w .spans) range i h .first)
+    begins i h = spans-begin b (w .spans) range i h
 
     -- what is planned falls within the stretch
     pub planned-within : (d : ℕ) → isCharged (plannedByDay b) d ≡ true → (known .from ≤ d) × (d ≤ known .to)
@@ -109,23 +109,6 @@ module _ (b : Book) {marks listed : List ℕ} {budgets : List ℤ} (w : AreLists
     module _ {days : List ℕ} (some : 1 ≤ length (b .calendars)) (few : length (b .calendars) ≤ 16) (most : length (b .activities) ≤ 500)
         (room : length (b .calendars) * (known .to + 1 - known .from) ≤ length days)
       where
-        pub lists-tabled : AreTabled (known .from) (known .to + 1 - known .from) (length budgets) days listed
-        lists-tabled =
-            let n = budgets-long b (w .budgeted) in
-            record {
-              most = omega (arith, n);
-              wide = omega (arith, c .most);
-              long = listed-long b (w .spans) ∙ sym (ap (λ (k : ℕ). k * 3) n);
-              few = λ i h. omega (arith, listed-named b (w .spans) range some i (omega (arith, n)));
-              covers = λ i h.
-                  let l : i < length (b .activities) = omega (arith, n) in
-                  record {
-                    start = c .begins i (begins i l);
-                    reach = omega (arith, c .ends i (begins i l), c .ahead, room, parts-room (known .to + 1 - known .from) (listed-named b (w .spans) range some i l));
-                    latest = omega (arith, c .ends i (begins i l), c .most);
-                  };
-            }
-
         module _ (shows : ShowsAll (b .calendars) (known .from) (known .to) days) where
           leaf-laid : (i : ℕ) → i < length (b .activities) → budgetLaid (known .from) (known .to + 1 - known .from) days marks listed budgets i ≡ cond (isLeaf (parents b) i) (plannedAmounts b i) []
           unfolding plannedAmounts

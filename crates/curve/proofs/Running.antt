@@ -7,7 +7,7 @@ use native.Mathlib.Omega.{arith}
 use borrow.Author.Tests.{leb-true, le-leb}
 use lib.Dec.{eqb, leb}
 use lib.IntN.{ℤ, pos, _+ℤ_}
-use lib.ListN.{length, getD, set, length-set}
+use lib.ListN.{length, set, length-set}
 use lib.Seq.{getD-set-same, getD-set-other}
 use mir.Syntax.{w64}
 use Rattle.integer.specs.Clamp.{clamp, clamp-fits}
@@ -15,11 +15,12 @@ use Rattle.money.specs.Words.{bits, ofBits}
 use Rattle.money.proofs.Bits.{there-and-back}
 use Rattle.gregorian.proofs.Laws.{and-both}
 use Rattle.format.specs.InRange.{Rising}
-use Rattle.model.specs.Lists.{keep}
+use Rattle.lists.specs.Lists.{keep}
 use Rattle.model.specs.Days.{datesBetween}
 use Rattle.model.specs.Amounts.{Dated, on, isBetween}
 use Rattle.model.specs.Planned.{running}
-use Rattle.model.proofs.Lists.{keep-map, keep-keep, keep-rises, keep-same, map-same, rest-rises, least, rising-same}
+use Rattle.lists.proofs.Lists.{keep-map, keep-keep, keep-same, map-same}
+use Rattle.model.proofs.Rising.{keep-rises, rest-rises, least, rising-same}
 use Rattle.model.proofs.Days.{kept-between, between-kept}
 use Rattle.bydate.specs.Laid.{markOf, sumOf}
 use Rattle.bydate.specs.Pointed.{isMarked, sumOn, pointsIn, Reaches}

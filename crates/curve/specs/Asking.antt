@@ -38,8 +38,3 @@ pub record HasRoom (n : ℕ) (schedule : List ℕ) (costs : List ℤ) (listed : 
   pub forCosts : length costs ≡ n * 3
   pub forListed : length listed ≡ n * 3
   pub forBudgets : length budgets ≡ n
-
--- the small tables are large enough
-pub record FitsSmall (asked : Asked) : Type 0 where
-  pub dates : widthOf asked ≤ 1024
-  pub days : asked .opened .plan .calendars .count * widthOf asked ≤ 4096

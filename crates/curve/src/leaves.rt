@@ -1,9 +1,11 @@
 // The leaves' budgets, spread over the listed days of their spans.
+use baseline::listed::LISTED_WIDTH;
 use bydate::days::span_of;
 use bydate::spread::lay_spread;
 ghost use lib.ListN.{length};
 ghost use Rattle.bydate.specs.Laid.{Laid};
-ghost use Rattle.curve.specs.Budgeted.{budgetsLaid, AreTabled};
+ghost use Rattle.planned.specs.Tabled.{AreTabled};
+ghost use Rattle.curve.specs.Budgeted.{budgetsLaid};
 
 // Leaf after leaf, by a table of spans and the days of the calendars, of `width` dates a row from `base` on. A mark is 0 for a leaf.
 pub fn lay_leaves(
@@ -24,7 +26,7 @@ pub fn lay_leaves(
             i += 1;
             continue;
         }
-        let at = i * 3;
+        let at = i * LISTED_WIDTH;
         let span = span_of(
             days,
             base,

@@ -5,7 +5,7 @@ pub mod totals;
 use crate::leaves::lay_leaves;
 use crate::totals::write_totals;
 use activities::Stretch;
-use activities::schedule::WIDTH;
+use activities::schedule::SCHEDULE_WIDTH;
 use activities::schedule::fill_schedule;
 use activities::schedule::parent_marks;
 use activities::stretches::earlier;
@@ -13,12 +13,13 @@ use activities::stretches::later;
 use activities::stretches::stretch_of;
 use answers::Reply;
 use answers::open::Opened;
+use baseline::listed::LISTED_WIDTH;
 use baseline::listed::list_spans;
+use bydate::sizes::fits_small;
 use calendar::all::fill_all;
 use costs::own::own_costs;
-ghost use mathlib.Core.Bool.{true};
+use tree::table::COST_WIDTH;
 ghost use mathlib.Core.List.{map};
-ghost use mathlib.Core.Path.{_≡_};
 ghost use Prim.Native.Nat.{_+_, _*_, _-_, _≤_};
 ghost use lib.ListN.{length};
 ghost use Rattle.format.specs.Verdict.{content};
@@ -27,7 +28,8 @@ ghost use Rattle.answers.specs.Calls.{Puts};
 ghost use Rattle.answers.specs.Opened.{IsOpened};
 ghost use Rattle.answers.specs.Rows.{pointRow, plannedCurveRows};
 ghost use Rattle.bydate.specs.Laid.{Laid};
-ghost use Rattle.curve.specs.Asking.{AreLists, IsAsked, widthOf, HasRoom, FitsSmall};
+ghost use Rattle.bydate.specs.Sizes.{FitsSmall};
+ghost use Rattle.curve.specs.Asking.{AreLists, IsAsked, widthOf, HasRoom};
 
 // What is asked of an opened book: the dates between two of the stretch that its listed spans take.
 pub struct Asked {
@@ -92,11 +94,11 @@ fn small_rows(
     out: &mut [u64],
 ) -> Reply
     requires { ⌜ IsAsked (now book) asked (now marks) (now listed) (now budgets) ⌝ }
-    requires { ⌜ FitsSmall asked ⌝ }
+    requires { ⌜ FitsSmall (asked .opened .plan .calendars .count) (asked .known) ⌝ }
     ensures { λ r. ⌜ Puts (map pointRow (plannedCurveBetween (content (now (book .entry))) (asked .from) (asked .to))) (now (out .entry)) r (now (out .exit)) ⌝ }
 {
-    let mut days = [0u8; 4096];
-    let mut table = [0u64; 2048];
+    let mut days = [0u8; 8192];
+    let mut table = [0u64; 4096];
     lay_plan(book, asked, marks, budgets, listed, &mut days, &mut table);
     write_totals(asked.known.from, asked.from, asked.to, &mut table, out)
 }
@@ -135,18 +137,6 @@ fn full_rows(
     full_table(book, asked, marks, budgets, listed, &mut days, out)
 }
 
-// Whether the small tables are large enough.
-fn is_small(asked: Asked) -> bool
-    requires { ⌜ (asked .known .from ≤ asked .known .to + 1) × (asked .known .to ≤ 47481) × (asked .opened .plan .calendars .count ≤ 16) ⌝ }
-    ensures { λ r. ⌜ (r ≡ true → FitsSmall asked) ⌝ }
-{
-    let width = asked.known.to + 1 - asked.known.from;
-    if 1024 < width {
-        return false;
-    }
-    asked.opened.plan.calendars.count * width <= 4096
-}
-
 // The rows between two dates, from what planned value is made of.
 fn rows_of(
     book: &[u8],
@@ -161,7 +151,7 @@ fn rows_of(
     requires { ⌜ AreLists (content (now book)) (now marks) (now listed) (now budgets) ⌝ }
     ensures { λ r. ⌜ Puts (map pointRow (plannedCurveBetween (content (now (book .entry))) (between .from) (between .to))) (now (out .entry)) r (now (out .exit)) ⌝ }
 {
-    let known = stretch_of(listed, budgets.len(), 3, 0);
+    let known = stretch_of(listed, budgets.len(), LISTED_WIDTH, 0);
     let asked = Asked {
         opened,
         known,
@@ -171,7 +161,7 @@ fn rows_of(
     if asked.to < asked.from {
         return Reply::Accepted(0);
     }
-    if is_small(asked) {
+    if fits_small(opened.plan.calendars.count, known) {
         return small_rows(book, asked, marks, budgets, listed, out);
     }
     full_rows(book, asked, marks, budgets, listed, out)
@@ -211,9 +201,9 @@ pub fn planned_curve_of(book: &[u8], opened: Opened, from: u64, to: u64, out: &m
         book,
         opened,
         between,
-        &mut schedule[..n * WIDTH],
-        &mut costs[..n * 3],
-        &mut listed[..n * 3],
+        &mut schedule[..n * SCHEDULE_WIDTH],
+        &mut costs[..n * COST_WIDTH],
+        &mut listed[..n * LISTED_WIDTH],
         &mut budgets[..n],
         out,
     )

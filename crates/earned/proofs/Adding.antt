@@ -15,7 +15,7 @@ use Rattle.integer.specs.Clamp.{clamp}
 use Rattle.integer.specs.Folds.{saturated, saturated-append}
 use Rattle.format.specs.declared.EvTechnique.{EvTechnique}
 use Rattle.format.specs.Book.{Assignment, Book}
-use Rattle.model.specs.Lists.{keep}
+use Rattle.lists.specs.Lists.{keep}
 use Rattle.model.specs.Costs.{assignmentsOf}
 use Rattle.model.specs.Earned.{unitsDone, unitsInAll}
 use Rattle.flat.proofs.Tables.{flat-one}

@@ -13,9 +13,9 @@ use Rattle.model.specs.Tree.{parents, indices, isLeaf}
 use Rattle.model.specs.Earned.{noEarned, leafEarned, ownEarned}
 use Rattle.tree.specs.Figures.{figureOf}
 use Rattle.tree.specs.Tables.{earnedFigures, ownValues}
-use Rattle.tree.proofs.Spans.{rows-length, rows-at, rows-cells}
-use Rattle.baseline.proofs.Entries.{entry-at}
-use Rattle.baseline.proofs.Listing.{parents-count}
+use Rattle.flat.proofs.Spans.{rows-length, rows-at, rows-cells}
+use Rattle.lists.proofs.Spans.{made-at}
+use Rattle.model.proofs.Tree.{parents-count}
 use Rattle.earned.specs.Measured.{measuredRow, measuredOf, Measured}
 
 pub measured-are : (b : Book) {own : List ℤ} → own ≡ measuredOf b → Measured b own
@@ -46,19 +46,6 @@ undated b date i j n = go (isLeaf (parents b) i) j n
     go false (suc (suc (suc zero))) n = refl
     go false (suc (suc (suc (suc zero)))) n = refl
     go false (suc (suc (suc (suc (suc j))))) n = refl
-
--- at another date
-pub values-measured : (b : Book) (date : ℕ) {own : List ℤ} → own ≡ ownValues b date → Measured b own
-unfolding ownValues
-values-measured b date e =
-    record {
-      long = ap length e ∙ rows-length 5 (λ i. earnedFigures (ownEarned b date i)) (λ i. refl) (length (parents b)) ∙ ap (λ (k : ℕ). k * 5) (parents-count b);
-      at =
-          λ i j h l n.
-          ap (λ (t : List ℤ). getD t (i * 5 + j) (pos 0)) e
-          ∙ rows-at 5 (λ k. earnedFigures (ownEarned b date k)) (λ k. refl) (length (parents b)) i j (pos 0) (omega (arith, parents-count b)) l
-          ∙ sym (undated b date i j n);
-    }
 
 -- ---- the loop
 
@@ -96,5 +83,5 @@ module _ {planned before : List ℤ} {i : ℕ} {out : List ℤ} (w : Putting pla
           rw e
           (w .done k (omega arith)
           ∙ ap (λ (t : List ℤ). figureOf t k) p
-          ∙ entry-at (λ (q : ℕ). ownEarned b date q .planned) (pos 0) (length (parents b)) k (omega (arith, parents-count b)))
+          ∙ made-at (λ (q : ℕ). ownEarned b date q .planned) (pos 0) (length (parents b)) k (omega (arith, parents-count b)))
       cell k j l s (no e) = w .kept k j s e ∙ m .at k j l s e ∙ undated b date k j e

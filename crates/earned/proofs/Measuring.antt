@@ -13,21 +13,21 @@ use Rattle.money.specs.declared.costs.Cost.{Cost}
 use Rattle.format.specs.declared.EvTechnique.{EvTechnique}
 use Rattle.format.specs.InRange.{InRange}
 use Rattle.format.specs.Book.{Book}
-use Rattle.model.specs.declared.Way.the-variants.{Planned}
-use Rattle.model.specs.Lists.{span}
-use Rattle.model.specs.Tree.{parents, indices, isLeaf}
+use Rattle.lists.specs.Lists.{span}
+use Rattle.model.specs.Tree.{parents, isLeaf}
 use Rattle.model.specs.Costs.{ownCost, costOf}
 use Rattle.model.specs.Planned.{budgetOf}
 use Rattle.model.specs.Earned.{performance}
-use Rattle.model.proofs.Lists.{span-in}
+use Rattle.lists.proofs.Spans.{span-in}
 use Rattle.model.proofs.Costs.{leaf-cost}
 use Rattle.flat.proofs.Tables.{flat-same}
 use Rattle.tree.specs.Figures.{figureOf, MarksLeaves}
 use Rattle.tree.specs.Tables.{costFigures, ownCosts}
-use Rattle.tree.proofs.Spans.{rows-length, rows-at}
+use Rattle.flat.proofs.Spans.{rows-length, rows-at}
 use Rattle.activities.specs.Schedule.{scheduleOf}
-use Rattle.baseline.specs.Listed.{ifLeaf, ofLeaf, budgetsOf, PlannedCosts}
-use Rattle.baseline.proofs.Listing.{parents-count, budget-at}
+use Rattle.baseline.specs.Listed.{ifLeaf, budgetsOf, PlannedCosts}
+use Rattle.baseline.proofs.Listing.{budget-at}
+use Rattle.model.proofs.Tree.{parents-count}
 use Rattle.earned.specs.Done.{doneIn}
 use Rattle.earned.specs.Units.{AreUnits}
 use Rattle.earned.specs.Measured.{measuredRow, measuredOf}

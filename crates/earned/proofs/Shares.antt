@@ -12,8 +12,8 @@ use Rattle.format.specs.InRange.{InRange}
 use Rattle.format.specs.Book.{Book}
 use Rattle.model.specs.Lookup.{noActivity, activityAt}
 use Rattle.model.specs.Earned.{unitsDone, unitsInAll, performanceBy, performance}
-use Rattle.activities.specs.Schedule.{scheduleOf}
-use Rattle.activities.proofs.Scheduling.{status-at, working-at, remaining-at, percent-at}
+use Rattle.activities.specs.Schedule.{scheduleRow, scheduleOf}
+use Rattle.activities.proofs.Scheduling.{status-at, working-at, remaining-at, percent-at, row-status, row-working, row-remaining, row-percent}
 use Rattle.earned.specs.Done.{doneBy, doneIn}
 use Rattle.earned.specs.Units.{ifUnits}
 
@@ -41,3 +41,13 @@ module _ (b : Book) (i : ℕ) where
   unfolding doneIn performance
   share-is e r h technique t d u =
       rw (percent-at b e i h (r .activities i noActivity h .percent), working-at b e i h, remaining-at b e i h, status-at b e i h, d, u, ← t) (share-by (b .technique) (activityAt b i .status))
+
+  -- by the row of the activity alone
+  pub share-row :
+      {row : List ℕ} → row ≡ scheduleRow (b .dataDate) (activityAt b i) → InRange b → i < length (b .activities) → (technique : EvTechnique) → b .technique ≡ technique → {done all : ℤ} →
+      done ≡ ifUnits technique (unitsDone b i) → all ≡ ifUnits technique (unitsInAll b i) → doneIn technique row 0 done all ≡ performance b i
+  unfolding doneIn performance
+  share-row e r h technique t d u =
+      let date = b .dataDate in
+      let a = activityAt b i in
+      rw (row-percent date a e (r .activities i noActivity h .percent), row-working date a e, row-remaining date a e, row-status date a e, d, u, ← t) (share-by (b .technique) (a .status))

@@ -11,7 +11,7 @@ use Rattle.integer.specs.Folds.{saturated}
 use Rattle.format.specs.declared.EvTechnique.{EvTechnique}
 use Rattle.format.specs.declared.EvTechnique.the-variants.{Physical, Duration, Units, ZeroHundred, FiftyFifty, Custom}
 use Rattle.format.specs.Book.{Assignment, Book}
-use Rattle.model.specs.Lists.{keep}
+use Rattle.lists.specs.Lists.{keep}
 use Rattle.model.specs.Earned.{unitsDone, unitsInAll}
 
 -- ---- what an assignment adds

@@ -1,15 +1,13 @@
 // The activities' own figures at a date: planned value is put beside those that no date changes.
 use answers::open::Opened;
-use book::Section;
-use planned::own::own_planned;
+use planned::values::planned_values;
+use tree::table::VALUE_WIDTH;
 ghost use Prim.Native.Nat.{ℕ, _*_};
 ghost use mathlib.Core.Path.{_≡_};
 ghost use mathlib.Core.List.{map};
 ghost use lib.ListN.{length};
 ghost use Rattle.format.specs.Book.{Book};
-ghost use Rattle.format.specs.Format as layout;
-ghost use Rattle.format.specs.Verdict.{content, Accepted};
-ghost use Rattle.book.specs.Plan.{Placed};
+ghost use Rattle.format.specs.Verdict.{content};
 ghost use Rattle.model.specs.Tree.{parents, indices};
 ghost use Rattle.model.specs.Earned.{ownEarned};
 ghost use Rattle.tree.specs.Tables.{ownValues};
@@ -25,7 +23,7 @@ fn put_planned(planned: &[i64], out: &mut [i64])
     let mut i = 0;
     while i < planned.len() {
         let figure = planned[i];
-        out[i * 5 + 1] = figure;
+        out[i * VALUE_WIDTH + 1] = figure;
         i += 1;
     }
 }
@@ -33,20 +31,19 @@ fn put_planned(planned: &[i64], out: &mut [i64])
 // With a column for planned value.
 fn date_by(
     book: &[u8],
-    calendars: Section,
+    opened: Opened,
     date: u64,
     listed: &[u64],
     budgets: &[i64],
     planned: &mut [i64],
     out: &mut [i64],
 )
-    requires { ⌜ Accepted (now book) ⌝ }
-    requires { ⌜ Placed layout.calendar (now book) calendars (content (now book) .calendars) ⌝ }
+    requires { ⌜ IsOpened (now book) opened ⌝ }
     requires { ⌜ (now listed ≡ listedOf (content (now book))) × (now budgets ≡ budgetsOf (content (now book))) ⌝ }
     requires { ⌜ (length (now planned) ≡ length (now budgets)) × Measured (content (now book)) (now out) ⌝ }
     ensures { λ r. ⌜ now (out .exit) ≡ ownValues (content (now (book .entry))) date ⌝ }
 {
-    own_planned(book, calendars, date, listed, budgets, planned);
+    planned_values(book, opened, date, listed, budgets, planned);
     put_planned(planned, out);
 }
 
@@ -66,13 +63,5 @@ pub fn date_values(
 {
     let n = budgets.len();
     let mut planned = [0i64; 500];
-    date_by(
-        book,
-        opened.plan.calendars,
-        date,
-        listed,
-        budgets,
-        &mut planned[..n],
-        out,
-    );
+    date_by(book, opened, date, listed, budgets, &mut planned[..n], out);
 }

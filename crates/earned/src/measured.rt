@@ -5,6 +5,8 @@ use activities::schedule::parent_marks;
 use answers::open::Opened;
 use floats::earned;
 use format::EvTechnique;
+use tree::table::COST_WIDTH;
+use tree::table::VALUE_WIDTH;
 ghost use Prim.Native.Nat.{ℕ, _+_, _*_, _≤_, _<_};
 ghost use mathlib.Core.Path.{_≡_};
 ghost use mathlib.Core.List.{[], _∷_};
@@ -23,9 +25,6 @@ ghost use Rattle.baseline.specs.Listed.{ifLeaf, budgetsOf};
 ghost use Rattle.earned.specs.Done.{doneIn};
 ghost use Rattle.earned.specs.Units.{AreUnits};
 ghost use Rattle.earned.specs.Measured.{measuredOf};
-
-// The figures of an activity: budget, planned value, earned value, actual cost, remaining cost.
-pub const WIDTH: usize = 5;
 
 // What a leaf earns of its budget; 0 for a parent.
 fn leaf_earned(
@@ -89,9 +88,9 @@ fn measure_rows(
     while i < budgets.len() {
         let budget = budgets[i];
         let value = leaf_earned(parents[i], technique, schedule, units, budget, i);
-        let actual = leaf_cost(parents[i], costs, i * 3 + 1);
-        let remaining = leaf_cost(parents[i], costs, i * 3 + 2);
-        put_row(i * WIDTH, budget, value, actual, remaining, out);
+        let actual = leaf_cost(parents[i], costs, i * COST_WIDTH + 1);
+        let remaining = leaf_cost(parents[i], costs, i * COST_WIDTH + 2);
+        put_row(i * VALUE_WIDTH, budget, value, actual, remaining, out);
         i += 1;
     }
 }

@@ -8,7 +8,6 @@ use records::activities::Assignment;
 use records::activities::read_assignment;
 ghost use Prim.Native.Nat.{ℕ, _+_, _*_, _<_};
 ghost use mathlib.Core.Path.{_≡_};
-ghost use mathlib.Core.List.{List};
 ghost use lib.IntN.{pos};
 ghost use lib.ListN.{length, getD};
 ghost use Rattle.format.specs.Format as layout;

@@ -5,7 +5,7 @@ use native.Mathlib.Omega.{arith}
 use mathlib.Core.Path.{_≡_, refl, sym, ap, _∙_, subst}
 use mathlib.Core.Bool.{Bool, true, false, cond, _&&_, _||_}
 use mathlib.Core.List.{List, [], _∷_, map, flatMap, foldl, List·Memᴰ, List·Memᴰ·head, List·Memᴰ·tail}
-use mathlib.Core.Option.{Option, none, some, Option·map}
+use mathlib.Core.Option.{none, some, Option·map}
 use lib.Dec.{eqb, leb}
 use lib.IntN.{ℤ, pos, _+ℤ_}
 use lib.ListN.{length, getD, set, take, replicate, length-map, length-append}
@@ -13,22 +13,21 @@ use lib.Seq.{sets}
 use mir.Syntax.{w64}
 use Rattle.integer.specs.Clamp.{clamp}
 use Rattle.integer.specs.Folds.{saturated}
-use Rattle.format.specs.Book.{Activity, PeriodRecord, Book}
+use Rattle.format.specs.Book.{PeriodRecord, Book}
 use Rattle.format.specs.InRange.{Every, InRange, PeriodRecordInRange}
 use Rattle.format.specs.Format as layout
 use Rattle.format.specs.Verdict.{content}
 use Rattle.book.specs.Sections.{alikeIn}
 use Rattle.book.proofs.Plan.{periods-count, records-in-range}
-use Rattle.holidays.specs.Holiday.{any}
+use Rattle.lists.specs.Lists.{any, span, consIf, keep}
 use Rattle.money.specs.Words.{bits}
-use Rattle.model.specs.Lists.{span, consIf, keep}
 use Rattle.model.specs.Tree.{parents}
 use Rattle.model.specs.Earned.{projectEarned}
 use Rattle.model.specs.Periods.{PeriodPoint, finishOf, actualIn, ofLeaf, isStored, recordsToDate, toDate, periodPoint, periodPoints}
-use Rattle.model.proofs.Lists.{span-in}
+use Rattle.model.proofs.Tree.{parents-count}
+use Rattle.lists.proofs.Spans.{span-in, span-length}
 use Rattle.tree.specs.Figures.{figureOf, isUnmarked, MarksLeaves}
-use Rattle.tree.proofs.Spans.{span-length}
-use Rattle.tree.proofs.Walks.{at-map}
+use Rattle.lists.proofs.Lists.{at-map}
 use Rattle.flat.proofs.Cells.{cell-inside}
 use Rattle.flat.proofs.Tables.{flat-same, flat-map}
 use Rattle.rows.specs.Rows.{numbers, optional}
@@ -36,7 +35,7 @@ use Rattle.rows.proofs.Sets.{optional-two}
 use Rattle.tree.specs.Tables.{ownCosts}
 use Rattle.costs.specs.Figures.{ownCostRow}
 use Rattle.costs.proofs.Owned.{own-length, own-at}
-use Rattle.costs.proofs.Reading.{every-in}
+use Rattle.format.proofs.Every.{every-in}
 use Rattle.calendar.specs.Changes.{Changed}
 use Rattle.answers.specs.declared.open.Opened.{Opened}
 use Rattle.answers.specs.Opened.{IsOpened}
@@ -92,7 +91,7 @@ module _ (b : Book) (ok : InRange b) (marks : List ℕ) (m : MarksLeaves marks (
   unfolding parents
   leaf-marked r i =
       m (r .activity)
-      (omega (arith, every-in (PeriodRecordInRange (length (b .periods)) (length (b .activities))) (b .records) (ok .records) r i .activity, length-map (b .activities) (λ (a : Activity). a .parent)))
+      (omega (arith, every-in (PeriodRecordInRange (length (b .periods)) (length (b .activities))) (b .records) (ok .records) r i .activity, parents-count b))
 
   module _ (p : ℕ) where
     stored-is : recorded marks (b .periods) (b .records) p 0 (pos 0) ≡ cond (isStored b p) (pos 1) (pos 0)

@@ -3,11 +3,13 @@ use crate::finishes::fill_finishes;
 use crate::listed::project_planned;
 use crate::points::put_points;
 use crate::points::take_records;
+use activities::schedule::SCHEDULE_WIDTH;
 use activities::schedule::fill_schedule;
 use activities::schedule::parent_marks;
 use answers::Reply;
 use answers::TOO_SHORT;
 use answers::open::Opened;
+use todate::WIDTH;
 ghost use Prim.Native.Nat.{ℕ, _*_, _≤_};
 ghost use mathlib.Core.Path.{_≡_};
 ghost use lib.IntN.{pos};
@@ -65,7 +67,7 @@ fn put_periods(book: &[u8], opened: Opened, schedule: &[u64], marks: &[u64], out
     ensures { λ r. ⌜ now (out .exit) ≡ numbers (periodPointsRows (content (now (book .entry)))) ⌝ }
 {
     let n = opened.ledger.periods.count as usize;
-    let size = n * 3;
+    let size = n * WIDTH;
     let mut finishes = [0u64; 240];
     let mut planned = [0i64; 240];
     let mut figures = [0i64; 720];
@@ -100,7 +102,7 @@ fn fill_periods(book: &[u8], opened: Opened, out: &mut [u64])
     requires { ⌜ length (now out) ≡ opened .ledger .periods .count * 7 ⌝ }
     ensures { λ r. ⌜ now (out .exit) ≡ numbers (periodPointsRows (content (now (book .entry)))) ⌝ }
 {
-    let size = opened.plan.activities.count as usize * 13;
+    let size = opened.plan.activities.count as usize * SCHEDULE_WIDTH;
     let mut schedule = [0u64; 6500];
     put_scheduled(book, opened, &mut schedule[..size], out);
 }

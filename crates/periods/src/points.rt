@@ -17,7 +17,7 @@ ghost use Rattle.format.specs.InRange.{Every, PeriodRecordInRange};
 ghost use Rattle.format.specs.Format as layout;
 ghost use Rattle.records.specs.Decoded.{periodRecordOf};
 ghost use Rattle.book.specs.Sections.{alikeIn};
-ghost use Rattle.model.specs.Lists.{span};
+ghost use Rattle.lists.specs.Lists.{span};
 ghost use Rattle.tree.specs.Figures.{figureOf};
 ghost use Rattle.calendar.specs.Changes.{Changed};
 ghost use Rattle.periods.specs.Points.{recordedOne, recorded, ifStored, pointRow, pointAt};

@@ -1,4 +1,4 @@
 pub mod Portions
-pub mod Reaching
-pub mod Replacing
+pub mod Tabling
 pub mod Settling
+pub mod Reaching

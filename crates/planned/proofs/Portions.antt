@@ -1,5 +1,5 @@
 -- What of an amount over a span is planned by a date: before the span nothing, once it has ended all, else by the count of its working dates.
-use Prim.Native.Nat.{ℕ, zero, suc, _+_, _-_, _≤_, _<_, min}
+use Prim.Native.Nat.{ℕ, zero, suc, _+_, _*_, _-_, _≤_, _<_, min}
 use mathlib.Core.Path.{_≡_, refl, sym, ap, ap₂, _∙_}
 use mathlib.Core.Bool.{Bool, true, false, true≢false, not, cond, _&&_}
 use mathlib.Core.List.{List}
@@ -7,7 +7,7 @@ use native.Mathlib.Omega.{arith}
 use borrow.Author.Tests.{lt-ltb, le-ltb, le-leb, lt-leb, leb-true, leb-false, ltb-true, ltb-false}
 use lib.Dec.{ltb, leb}
 use lib.IntN.{ℤ, pos, negsuc, natAbs}
-use lib.ListN.{length}
+use lib.ListN.{length, getD, length-append}
 use mir.Syntax.{w64}
 use mir.Val.{SFits}
 use Rattle.integer.specs.Signs.{like}
@@ -17,15 +17,16 @@ use Rattle.money.proofs.Spread.{extra, parts, parts-le, sum-like, shares-all}
 use Rattle.gregorian.proofs.Laws.{and-both}
 use Rattle.format.specs.Book.{Calendar}
 use Rattle.format.specs.InRange.{Rising}
-use Rattle.model.specs.Lists.{keep}
-use Rattle.model.specs.Calendar.{isWorking}
+use Rattle.lists.specs.Lists.{keep}
 use Rattle.model.specs.Days.{datesBetween, workingDays, dayList}
-use Rattle.model.proofs.Lists.{keep-none, keep-all}
+use Rattle.lists.proofs.Lists.{keep-none, keep-all}
 use Rattle.model.proofs.Days.{day-list-counted, day-list-empty, day-list-some, day-list-rises, day-list-within}
 use Rattle.model.proofs.Planned.{countUpTo, spread-up-to, count-less, count-working, count-alone}
-use Rattle.calendar.specs.Tables.{steps, Counts, Rises}
-use Rattle.calendar.proofs.Spans.{rises-between, counts-working}
-use Rattle.planned.specs.Values.{plannedIn, settledBy, isNought, isGoing, portionOf, portionIn}
+use Rattle.model.specs.Lookup.{noCalendar}
+use Rattle.calendar.specs.Tables.{ShowsAll}
+use Rattle.bydate.proofs.Dates.{parted}
+use Rattle.bydate.proofs.Showing.{row-worked}
+use Rattle.planned.specs.Values.{plannedIn, settledBy, isNought, isGoing, portionOf, portionIn, plannedBy}
 
 -- ---- over rising days
 
@@ -73,7 +74,7 @@ module _ (c : Calendar) (first last date : ℕ) (amount : ℤ) (fits : SFits w64
       listed-all (ap length (keep-all (λ d. leb d date) days (λ d m. le-leb d date (omega (arith, day-list-within c first last d m .1)))))
 
   -- between that, what the working dates up to the date get
-  pub planned-portion : first ≤ date → date ≤ last → portionOf amount (length (workingDays c first last)) (length (workingDays c first date)) ≡ plannedIn date amount days
+  planned-portion : first ≤ date → date ≤ last → portionOf amount (length (workingDays c first last)) (length (workingDays c first date)) ≡ plannedIn date amount days
   unfolding portionOf
   planned-portion h l = go (length (workingDays c first last)) refl
     where
@@ -138,7 +139,7 @@ module _ (date : ℕ) (amount : ℤ) (first last : ℕ) where
     going-on = ltb-true date last (and-both (leb first date) (ltb date last) both .1)
 
   -- any other is settled, under any calendar
-  pub not-going : SFits w64 amount → isGoing date amount first last ≡ false → (c : Calendar) → settledBy date amount first ≡ plannedIn date amount (dayList c first last)
+  not-going : SFits w64 amount → isGoing date amount first last ≡ false → (c : Calendar) → settledBy date amount first ≡ plannedIn date amount (dayList c first last)
   unfolding isGoing
   not-going fits g c = go (isNought amount) refl (leb first date) refl (ltb date last) refl g
     where
@@ -155,21 +156,17 @@ module _ (date : ℕ) (amount : ℤ) (first last : ℕ) where
           sym (settled-since (leb-true first date f)) ∙ sym (planned-after c first last date amount fits (leb-true first date f) (omega (arith, ltb-false date last h)))
       go false e true f true h g = absurd (true≢false g)
 
--- ---- by a table of running counts
+-- ---- by a table of days
 
-pub rises-within : {base from to : ℕ} {counts : List ℕ} → Rises base from to counts → (a b : ℕ) → from ≤ a → b ≤ to → Rises base a b counts
-rises-within r a b h l = record { by = λ d p q. r .by d (omega arith) (omega arith) }
-
--- up to a date of the span the table goes up no more often than over all of it
-pub fewer-up-to :
-    (base : ℕ) (counts : List ℕ) (first last date : ℕ) → Rises base first last counts → first ≤ date → date < last →
-    length (keep (steps base counts) (datesBetween first date)) ≤ length (keep (steps base counts) (datesBetween first last))
-fewer-up-to base counts first last date r h l =
+-- up to a date of the span no more of its dates pass than of all of it
+pub fewer-up-to : (p : ℕ → Bool) (first last date : ℕ) → first ≤ date → date < last → length (keep p (datesBetween first date)) ≤ length (keep p (datesBetween first last))
+fewer-up-to p first last date h l =
+    let e : date + 1 - 1 ≡ date = omega arith in
     omega (
       arith,
-      rises-between base counts first last r (omega arith),
-      rises-between base counts first date (rises-within r first date (omega arith) (omega arith)) h,
-      rises-between base counts (date + 1) last (rises-within r (date + 1) last (omega arith) (omega arith)) (omega arith),
+      ap length (parted p first (date + 1) last (omega arith) (omega arith)),
+      length-append (keep p (datesBetween first (date + 1 - 1))) (keep p (datesBetween (date + 1) last)),
+      ap (λ (d : ℕ). length (keep p (datesBetween first d))) e,
     )
 
 pub portion-all : (amount : ℤ) (n k : ℕ) → n ≡ 0 → amount ≡ portionOf amount n k
@@ -182,12 +179,30 @@ unfolding portionOf
 portion-some amount zero k h = absurd (h refl)
 portion-some amount (suc n) k h = refl
 
--- a table that counts a calendar's working dates
-pub portion-planned :
-    (c : Calendar) (lo hi : ℕ) (counts : List ℕ) → Counts (isWorking c) lo hi counts →
-    (first last date : ℕ) → lo ≤ first → last ≤ hi → first ≤ date → date < last → (amount : ℤ) → SFits w64 amount →
-    portionIn lo counts date first last amount ≡ plannedIn date amount (dayList c first last)
-portion-planned c lo hi counts t first last date a b h l amount fits =
-    ap₂ (λ (xs ys : List ℕ). portionOf amount (length xs) (length ys))
-    (counts-working c lo hi counts t first last a b) (counts-working c lo hi counts t first date a (omega arith))
-    ∙ planned-portion c first last date amount fits h (omega arith)
+-- what the test says
+pub by-portion : (row base : ℕ) (days : List ℕ) (date first last : ℕ) (amount : ℤ) → isGoing date amount first last ≡ true → portionIn row base days date first last amount ≡ plannedBy row base days date first last amount
+unfolding plannedBy
+by-portion row base days date first last amount g = sym (ap (λ (b : Bool). cond b (portionIn row base days date first last amount) (settledBy date amount first)) g)
+
+pub by-settled : (row base : ℕ) (days : List ℕ) (date first last : ℕ) (amount : ℤ) → isGoing date amount first last ≡ false → settledBy date amount first ≡ plannedBy row base days date first last amount
+unfolding plannedBy
+by-settled row base days date first last amount g = sym (ap (λ (b : Bool). cond b (portionIn row base days date first last amount) (settledBy date amount first)) g)
+
+-- a table that shows the days of calendars
+module _ {calendars : List Calendar} {base end : ℕ} {days : List ℕ} (w : ShowsAll calendars base end days) (k : ℕ) (h : k < length calendars)
+    (first last : ℕ) (f : base ≤ first) (t : last ≤ end) (date : ℕ) (amount : ℤ) (fits : SFits w64 amount) where
+  abbrev calendar : Calendar
+  calendar = getD calendars k noCalendar
+
+  abbrev row : ℕ
+  row = k * (end + 1 - base)
+
+  pub planned-shown : plannedBy row base days date first last amount ≡ plannedIn date amount (dayList calendar first last)
+  planned-shown = go (isGoing date amount first last) refl
+    where
+      go : (b : Bool) → isGoing date amount first last ≡ b → plannedBy row base days date first last amount ≡ plannedIn date amount (dayList calendar first last)
+      go true g =
+          sym (by-portion row base days date first last amount g)
+          ∙ ap₂ (λ (xs ys : List ℕ). portionOf amount (length xs) (length ys)) (row-worked w k h first last f t) (row-worked w k h first date f (omega (arith, going-on date amount first last g)))
+          ∙ planned-portion calendar first last date amount fits (going-begun date amount first last g) (omega (arith, going-on date amount first last g))
+      go false g = sym (by-settled row base days date first last amount g) ∙ not-going date amount first last fits g calendar

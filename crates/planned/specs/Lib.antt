@@ -1,2 +1,3 @@
-pub mod Columns
 pub mod Values
+pub mod Tabled
+pub mod Reached

@@ -1,49 +1,51 @@
-// What is planned by a date of each activity's budget: of leaves, 0 for parents.
-use crate::calendars::plan_calendars;
-use crate::spans::settled;
-use book::Section;
+// What is planned by a date of each activity's budget, by a table of the days of the calendars: `width` dates a row, from `base` on.
+use crate::spans::planned_by;
+use baseline::listed::LISTED_WIDTH;
 ghost use mathlib.Core.Path.{_≡_};
 ghost use mathlib.Core.List.{map};
-ghost use Prim.Native.Nat.{_*_};
+ghost use Prim.Native.Nat.{_<_};
 ghost use lib.ListN.{length};
-ghost use Rattle.format.specs.Format as layout;
-ghost use Rattle.format.specs.Verdict.{content, Accepted};
-ghost use Rattle.book.specs.Plan.{Placed};
-ghost use Rattle.model.specs.Lists.{span};
-ghost use Rattle.model.specs.Tree.{parents, indices};
-ghost use Rattle.model.specs.Earned.{ownEarned};
-ghost use Rattle.tree.specs.Figures.{figureOf};
-ghost use Rattle.baseline.specs.Listed.{listedOf, budgetsOf, firstAt};
-ghost use Rattle.planned.specs.Values.{settledBy};
+ghost use Rattle.lists.specs.Lists.{span};
+ghost use Rattle.planned.specs.Values.{plannedAt};
+ghost use Rattle.planned.specs.Tabled.{AreTabled};
 
-// Nothing before a span begins, else all.
-fn settle(date: u64, listed: &[u64], budgets: &[i64], out: &mut [i64])
-    requires { ⌜ (length (now listed) ≡ length (now budgets) * 3) × (length (now out) ≡ length (now budgets)) ⌝ }
-    ensures { λ r. ⌜ now (out .exit) ≡ map (λ i. settledBy date (figureOf (now (budgets .entry)) i) (firstAt (now (listed .entry)) i)) (span 0 (length (now (budgets .entry)))) ⌝ }
+// Of one activity.
+fn planned_at(
+    date: u64,
+    base: u64,
+    width: u64,
+    days: &[u8],
+    listed: &[u64],
+    budgets: &[i64],
+    i: usize,
+) -> i64
+    requires { ⌜ AreTabled base width (length (now budgets)) (now days) (now listed) ⌝ }
+    requires { ⌜ i < length (now budgets) ⌝ }
+    ensures { λ r. ⌜ r ≡ plannedAt base width (now (days .entry)) date (now (listed .entry)) (now (budgets .entry)) i ⌝ }
 {
-    let mut i = 0;
-    while i < budgets.len() {
-        let amount = budgets[i];
-        out[i] = settled(date, amount, listed[i * 3]);
-        i += 1;
-    }
+    let at = i * LISTED_WIDTH;
+    let row = (listed[at + 2] * width) as usize;
+    let amount = budgets[i];
+    planned_by(date, amount, days, row, base, listed[at], listed[at + 1])
 }
 
-// Planned value at the date, from the listed spans and the budgets; `calendars` are the book's.
+// Of all.
 pub fn own_planned(
-    book: &[u8],
-    calendars: Section,
     date: u64,
+    base: u64,
+    width: u64,
+    days: &[u8],
     listed: &[u64],
     budgets: &[i64],
     out: &mut [i64],
 )
-    requires { ⌜ Accepted (now book) ⌝ }
-    requires { ⌜ Placed layout.calendar (now book) calendars (content (now book) .calendars) ⌝ }
-    requires { ⌜ (now listed ≡ listedOf (content (now book))) × (now budgets ≡ budgetsOf (content (now book))) ⌝ }
+    requires { ⌜ AreTabled base width (length (now budgets)) (now days) (now listed) ⌝ }
     requires { ⌜ length (now out) ≡ length (now budgets) ⌝ }
-    ensures { λ r. ⌜ now (out .exit) ≡ map (λ i. ownEarned (content (now (book .entry))) date i .planned) (indices (parents (content (now (book .entry))))) ⌝ }
+    ensures { λ r. ⌜ now (out .exit) ≡ map (plannedAt base width (now (days .entry)) date (now (listed .entry)) (now (budgets .entry))) (span 0 (length (now (budgets .entry)))) ⌝ }
 {
-    settle(date, listed, budgets, out);
-    plan_calendars(book, calendars, date, listed, budgets, out);
+    let mut i = 0;
+    while i < budgets.len() {
+        out[i] = planned_at(date, base, width, days, listed, budgets, i);
+        i += 1;
+    }
 }

@@ -1,5 +1,4 @@
 -- `fill_lists` meets its contract, list by list.
-use native.Mathlib.Omega.{arith}
 use Rattle.format.specs.Verdict.{content}
 use Rattle.activities.proofs.Scheduling.{schedule-most}
 use Rattle.curve.proofs.Curving.{costs-planned}

@@ -37,8 +37,8 @@ returns c =
     nothing-points _ _
     (curve-nothing (content (s .args .book .now)) (range s) (s .pre .1) (listed-covers (s .args .listed .now) (c .before .before .before .before .stretch-of .ensures)) (s .args .between .from) (s .args .between .to) (c .before .before .before .later .ensures) (c .before .before .earlier .ensures) (c .if1 .taken))
 
-is-small-requires : tie.Need-is-small-requires
-is-small-requires c κs = let k = c .before .before .before .before .stretch-of .ensures in (k .ahead, k .most, calendars-most (c .before .before .before .before .before .before .before .before .pre .0 .plan))
+fits-small-requires : tie.Need-fits-small-requires
+fits-small-requires c κs = let k = c .before .before .before .before .stretch-of .ensures in (k .ahead, k .most, calendars-most (c .before .before .before .before .before .before .before .before .pre .0 .plan))
 
 -- what is asked, where the first date is not after the last
 asked-is : (c : tie.Else1) → let s = c .before .before .before .before .before .before .before .before in IsAsked (s .args .book .now) (record { opened = s .args .opened; known = c .before .before .before .before .stretch-of .result; from = c .before .before .before .later .result; to = c .before .before .earlier .result }) (s .args .marks .now) (s .args .listed .now) (s .args .budgets .now)
@@ -54,7 +54,7 @@ asked-is c =
     }
 
 small-rows-requires : tie.Need-small-rows-requires
-small-rows-requires c κs = (asked-is (c .before .before .before), c .before .before .is-small .ensures (c .before .if2 .taken))
+small-rows-requires c κs = (asked-is (c .before .before .before), c .before .before .fits-small .ensures (c .before .if2 .taken))
 
 same-length : tie.Need-same-length
 same-length c = search needs
@@ -87,7 +87,7 @@ rows-of-spec =
     later-requires
     earlier-requires
     returns
-    is-small-requires
+    fits-small-requires
     small-rows-requires
     same-length
     returns-2

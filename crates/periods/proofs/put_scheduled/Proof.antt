@@ -1,6 +1,5 @@
 -- `put_scheduled` meets its contract: the schedule, the marks, then the rows.
 use borrow.Author.Needs.{needs}
-use native.Mathlib.Omega.{arith}
 use Rattle.format.specs.Verdict.{content}
 use Rattle.activities.proofs.Scheduling.{schedule-most}
 use Rattle.periods.proofs.put_scheduled.Statement.{statement}

@@ -4,7 +4,7 @@ use mathlib.Core.List.{List}
 use Prim.Native.Nat.{ℕ, _+_, _-_, _≤_}
 use native.Mathlib.Omega.{arith}
 use lib.ListN.{length, getD}
-use Rattle.model.specs.Lists.{span as dates, keep}
+use Rattle.lists.specs.Lists.{span as dates, keep}
 use Rattle.model.specs.Days.{datesBetween, orAlone}
 use Rattle.bydate.specs.Listed.{inRow, workedIn}
 use Rattle.bydate.proofs.Dates.{skip-last, last-kept, none-before}

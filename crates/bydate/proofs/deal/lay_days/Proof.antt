@@ -1,14 +1,14 @@
 -- `lay_days` meets its contract: the loop keeps that with the dates that are left all are laid.
 use mathlib.Core.Path.{_≡_, refl, sym, ap, _∙_}
 use mathlib.Core.Bool.{true, false}
-use mathlib.Core.List.{List, [], _∷_}
-use Prim.Native.Nat.{ℕ, _+_, _-_, _≤_}
+use mathlib.Core.List.{[], _∷_}
+use Prim.Native.Nat.{_+_, _-_, _≤_}
 use native.Mathlib.Omega.{arith}
 use lib.IntN.{ℤ}
 use lib.ListN.{length}
 use mir.Syntax.{w64}
 use Rattle.integer.specs.Linear.{back}
-use Rattle.model.specs.Amounts.{Dated, on}
+use Rattle.model.specs.Amounts.{on}
 use Rattle.bydate.specs.Dealt.{dealt, ofDeal}
 use Rattle.bydate.specs.Listed.{inRow, workedIn}
 use Rattle.bydate.proofs.Laying.{Laying, laying-none, laying-more, laying-past, laying-end, laid-same}

@@ -4,15 +4,14 @@ use mathlib.Core.List.{[]}
 use Prim.Native.Nat.{ℕ, _+_, _-_, _*_, _≤_, min}
 use native.Mathlib.Omega.{arith}
 use lib.Dec.{ltb}
-use lib.IntN.{ℤ}
 use lib.ListN.{length}
 use mir.Syntax.{w64}
 use Rattle.integer.specs.Linear.{back}
 use Rattle.money.specs.Words.{bits}
-use Rattle.model.specs.Lists.{consIf}
+use Rattle.lists.specs.Lists.{consIf}
 use Rattle.model.specs.Amounts.{on, saturatedSum}
 use Rattle.model.specs.Months.{monthStart}
-use Rattle.bydate.specs.Pointed.{pointsIn, rowIf, Reaches}
+use Rattle.bydate.specs.Pointed.{pointsIn, rowIf}
 use Rattle.bydate.proofs.Writing.{row-most, row-if, Putting, putting-none, putting-more, putting-count, putting-end}
 use Rattle.bydate.specs.declared.months.MonthDates.{MonthDates}
 use Rattle.bydate.specs.Months.{monthEnd}

@@ -1,7 +1,6 @@
 -- `lay_spread` meets its contract: on the first date alone, or over the working dates.
 use mathlib.Core.Path.{sym, ap, _∙_}
 use mathlib.Core.List.{[], _∷_}
-use native.Mathlib.Omega.{arith}
 use lib.IntN.{ℤ}
 use mir.Facts.{toZ-ofZ}
 use Rattle.model.specs.Amounts.{on}

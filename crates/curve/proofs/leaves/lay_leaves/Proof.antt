@@ -1,7 +1,6 @@
 -- `lay_leaves` meets its contract: the loop keeps that with the activities that are left all are laid.
-use mathlib.Core.Path.{_≡_, ap, _∙_}
-use mathlib.Core.List.{List}
-use Prim.Native.Nat.{ℕ, _-_}
+use mathlib.Core.Path.{ap}
+use Prim.Native.Nat.{_-_}
 use native.Mathlib.Omega.{arith}
 use lib.IntN.{ℤ, pos}
 use lib.ListN.{length, getD}
@@ -10,8 +9,9 @@ use Rattle.integer.specs.Linear.{back}
 use Rattle.model.specs.Amounts.{spreadOver}
 use Rattle.bydate.specs.Listed.{listedIn}
 use Rattle.bydate.proofs.Laying.{Laying, laid-same}
+use Rattle.planned.proofs.Tabling.{span-asked}
 use Rattle.curve.specs.Budgeted.{budgetsLaid}
-use Rattle.curve.proofs.Planning.{laidFrom, leaves-none, leaves-past, leaves-more, leaves-end, span-asked, span-has}
+use Rattle.curve.proofs.Planning.{laidFrom, leaves-none, leaves-past, leaves-more, leaves-end, span-has}
 use borrow.Author.Needs.{needs}
 use Rattle.curve.proofs.leaves.lay_leaves.Statement.{statement}
 use Rattle.curve.proofs.leaves.lay_leaves.Tie as tie

@@ -1,10 +1,8 @@
 -- `write_totals` meets its contract: the totals, then their points from a date on.
-use mathlib.Core.Path.{_≡_, ap, _∙_, subst}
-use mathlib.Core.List.{List, map}
+use mathlib.Core.Path.{ap, _∙_}
 use native.Mathlib.Omega.{arith}
-use lib.ListN.{length}
-use Rattle.model.specs.Lists.{keep}
-use Rattle.model.specs.Amounts.{Dated, isBetween}
+use Rattle.lists.specs.Lists.{keep}
+use Rattle.model.specs.Amounts.{isBetween}
 use Rattle.bydate.proofs.Writing.{puts-same}
 use Rattle.curve.proofs.Running.{points-from}
 use borrow.Author.Needs.{needs}

@@ -10,13 +10,13 @@ put-planned-requires : tie.Need-put-planned-requires
 put-planned-requires c κs =
     let planned = c .before .before in
     let s = planned .before .before .before .before .before in
-    omega (arith, planned .planned .given, s .pre .1 .1 .1 .0, s .pre .1 .1 .1 .1 .long, budgets-long (content (s .args .book .now)) (s .pre .1 .1 .0 .1))
+    omega (arith, planned .planned .given, s .pre .1 .1 .0, s .pre .1 .1 .1 .long, budgets-long (content (s .args .book .now)) (s .pre .1 .0 .1))
 
 returns : tie.Need-returns
 returns c =
     let planned = c .before .before .before .before in
     let s = planned .before .before .before .before .before in
-    c .before .put-planned .ensures (content (s .args .book .now)) (s .args .date) (s .pre .1 .1 .1 .1) (planned .before .own-planned .ensures)
+    c .before .put-planned .ensures (content (s .args .book .now)) (s .args .date) (s .pre .1 .1 .1) (planned .before .planned-values .ensures)
 
 pub date-by-spec : {M : Type 1} → statement M
 date-by-spec =

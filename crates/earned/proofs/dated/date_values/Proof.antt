@@ -23,8 +23,7 @@ slice-aggregate-date-by c = sym (length-take-le _ _ (room (c .before .before .be
 date-by-requires : tie.Need-date-by-requires
 date-by-requires c κs =
     let s = c .before .before .before .before in
-    let p = s .pre .0 .plan in
-    (p .accepted, (p .calendars, (s .pre .1 .0, (length-take-le _ _ (room s), s .pre .1 .1))))
+    (s .pre .0, (s .pre .1 .0, (length-take-le _ _ (room s), s .pre .1 .1)))
 
 pub date-values-spec : {M : Type 1} → statement M
 date-values-spec =

@@ -1,5 +1,4 @@
 -- `measure_by` meets its contract: the units, then the rows.
-use Prim.Native.Nat.{_*_, _≤_}
 use native.Mathlib.Omega.{arith}
 use mathlib.Core.Path.{_≡_, _∙_}
 use lib.ListN.{length}

@@ -7,10 +7,10 @@ use lib.ListN.{length, getD}
 use mir.Syntax.{w64}
 use Rattle.integer.specs.Linear.{back}
 use Rattle.floats.specs.Figures.{earnedOf}
-use Rattle.model.specs.Lists.{span}
+use Rattle.lists.specs.Lists.{span}
 use Rattle.flat.proofs.Written.{Written}
 use Rattle.tree.specs.Figures.{figureOf}
-use Rattle.tree.proofs.Spans.{rows-none, rows-more, rows-end}
+use Rattle.flat.proofs.Spans.{rows-none, rows-more, rows-end}
 use Rattle.activities.proofs.Scheduling.{schedule-length}
 use Rattle.baseline.specs.Listed.{ifLeaf}
 use Rattle.earned.specs.Done.{doneIn}

@@ -1,5 +1,5 @@
 -- `share_done` meets its contract: by the status.
-use mathlib.Core.Path.{refl, ap, sym, _∙_}
+use mathlib.Core.Path.{refl, _∙_}
 use lib.Ieee.{ofBits}
 use mir.Facts.{toZ-ofZ}
 use borrow.Author.Needs.{needs}

@@ -2,7 +2,7 @@
 use Prim.Native.Nat.{_-_}
 use native.Mathlib.Omega.{arith}
 use mathlib.Core.Path.{_≡_, sym, _∙_, subst}
-use lib.ListN.{length, getD}
+use lib.ListN.{getD}
 use Rattle.format.specs.Codec.{alike}
 use Rattle.format.specs.Format.{assignment}
 use Rattle.format.specs.InRange.{AssignmentInRange}

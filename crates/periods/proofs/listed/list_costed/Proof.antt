@@ -1,6 +1,5 @@
 -- `list_costed` meets its contract: the costs, then the spans and the budgets.
 use borrow.Author.Needs.{needs}
-use native.Mathlib.Omega.{arith}
 use Rattle.format.specs.Verdict.{content}
 use Rattle.periods.proofs.Made.{planned-costs}
 use Rattle.periods.proofs.listed.list_costed.Statement.{statement}

@@ -11,21 +11,15 @@ list-all-requires c κs =
     let s = c .before .before .before .before .before .before .before in
     (s .pre .0, (s .pre .1 .0, (s .pre .1 .1 .1 .0, s .pre .1 .1 .1 .1)))
 
-fill-planned-requires : tie.Need-fill-planned-requires
-fill-planned-requires c κs =
+sized-dates-requires : tie.Need-sized-dates-requires
+sized-dates-requires c κs =
     let listed = c .before .before .before .before .before .before in
     let s = listed .before .before .before .before .before .before .before .before in
     let plan = s .pre .0 .plan in
     let marked = s .pre .1 .1 .0 in
     let n = c .before .before .before .budgets .given ∙ s .pre .1 .1 .1 .1 in (
-      plan .accepted,
-      (
-        plan .calendars,
-        (
-          listed .list-all .ensures,
-          ((marked .0, omega (arith, n, activities-most plan, marked .1), omega (arith, n, activities-most plan)), s .pre .1 .1 .1 .2),
-        ),
-      ),
+      s .pre .0,
+      (listed .list-all .ensures, ((marked .0, omega (arith, n, activities-most plan, marked .1)), s .pre .1 .1 .1 .2)),
     )
 
 pub plan-dates-spec : {M : Type 1} → statement M
@@ -33,7 +27,7 @@ plan-dates-spec =
     tie.close
     (tie.spec
     list-all-requires
-    fill-planned-requires
+    sized-dates-requires
     (λ c. search needs)
     (λ c. search needs)
     (λ c. search needs)

@@ -3,7 +3,6 @@ use borrow.Author.Needs.{needs}
 use native.Mathlib.Omega.{arith}
 use Prim.Native.Nat.{_+_, _*_}
 use mathlib.Core.Path.{ap, ap₂, _∙_}
-use lib.IntN.{ℤ}
 use lib.ListN.{length-set}
 use mir.Syntax.{w64}
 use mir.Facts.{toZ-ofZ}

@@ -9,11 +9,11 @@ use lib.ListN.{length, getD}
 use lib.Seq.{sets}
 use mir.Syntax.{w64}
 use Rattle.integer.specs.Linear.{back}
-use Rattle.model.specs.Lists.{span}
+use Rattle.lists.specs.Lists.{span}
 use Rattle.flat.proofs.Cells.{row-inside}
 use Rattle.flat.proofs.Written.{Written}
 use Rattle.tree.specs.Figures.{figureOf}
-use Rattle.tree.proofs.Spans.{rows-none, rows-full, rows-room, rows-more, rows-end}
+use Rattle.flat.proofs.Spans.{rows-none, rows-full, rows-room, rows-more, rows-end}
 use Rattle.periods.specs.Points.{pointRow, pointAt}
 use Rattle.periods.proofs.points.put_points.Statement.{statement}
 use Rattle.periods.proofs.points.put_points.Tie as tie
