@@ -1,6 +1,6 @@
 -- What is asked of an accepted book: its tables are as laying and writing need them.
-use Prim.Native.Nat.{ℕ, _+_, _*_, _-_, _≤_, _<_, min, max}
-use mathlib.Core.Path.{_≡_, refl, sym, ap, ap₂, _∙_, subst}
+use Prim.Native.Nat.{ℕ, _+_, _*_, _≤_, _<_, min, max}
+use mathlib.Core.Path.{_≡_, sym, ap, ap₂, _∙_, subst}
 use mathlib.Core.List.{List, [], map, flatMap}
 use native.Mathlib.Nat.{mul-le-mul-right}
 use native.Mathlib.Omega.{arith}
@@ -8,12 +8,13 @@ use lib.IntN.{ℤ, pos}
 use lib.ListN.{length, getD, take, replicate, length-replicate}
 use Rattle.format.specs.Format as layout
 use Rattle.format.specs.InRange.{Every, CalendarInRange, InRange}
+use Rattle.format.specs.Book.{Book}
 use Rattle.format.specs.Verdict.{content}
 use Rattle.format.proofs.Theorems.{content-in-range}
 use Rattle.book.specs.Sections.{alikeIn}
 use Rattle.book.specs.Plan.{IsPlanOf}
-use Rattle.book.proofs.Plan.{calendars-most, resources-most, assignments-most, expenses-most}
-use Rattle.model.specs.Amounts.{Dated, pointsBetween}
+use Rattle.book.proofs.Plan.{calendars-most, assignments-most, expenses-most}
+use Rattle.model.specs.Amounts.{pointsBetween}
 use Rattle.model.specs.Costs.{budgetByDay, spendingBetween}
 use Rattle.model.specs.declared.Way.the-variants.{Planned}
 use Rattle.model.proofs.Points.{points-none}
@@ -32,27 +33,27 @@ use Rattle.bydate.specs.Pointed.{pointsIn, Reaches}
 use Rattle.bydate.proofs.Arrays.{front-long}
 use Rattle.bydate.proofs.Pointing.{points-laid, points-narrow}
 use Rattle.bydate.proofs.Writing.{puts-same}
-use Rattle.spending.specs.declared.budgets.Asked.{Asked}
-use Rattle.spending.specs.Budgeted.{IsAsked, widthOf, chargeCount, HasRoom}
-use Rattle.spending.specs.declared.budgets.Grain.{Grain}
+use Rattle.bydate.specs.Sizes.{datesOf}
+use Rattle.spending.specs.declared.asked.Asked.{Asked}
+use Rattle.spending.specs.declared.charged.Frame.{Frame}
+use Rattle.spending.specs.Asking.{IsAsked, IsCharged}
+use Rattle.spending.specs.Budgeted.{chargeCount, HasRoom}
 use Rattle.spending.specs.Grained.{grained}
 use Rattle.spending.specs.Chained.{Chained}
-use Rattle.spending.specs.Charged.{AreTables, Charged, AreSpans, IsScheduled}
+use Rattle.spending.specs.Charged.{AreTables, Charged, AreCharged, AreSpans, IsScheduled}
 use Rattle.spending.proofs.Charging.{charged-are}
 use Rattle.spending.proofs.Spanning.{spans-are, spans-listed, budget-within}
 
 -- ---- parts of arrays
 
 pub arrays-room :
-    (asked : Asked) {days : List ℕ} (l u r : ℕ) → asked .opened .plan .calendars .count * widthOf asked ≤ length days → chargeCount (asked .opened .plan) * 2 ≤ l → chargeCount (asked .opened .plan) * 3 ≤ u →
-    asked .opened .plan .resources .count * 82 ≤ r →
-    HasRoom asked days (take (chargeCount (asked .opened .plan) * 2) (replicate l 0)) (take (chargeCount (asked .opened .plan) * 3) (replicate u (pos 0))) (take (asked .opened .plan .resources .count * 82) (replicate r 0))
-arrays-room asked l u r e f g h =
+    (plan : Plan) (r l u : ℕ) → plan .resources .count * 82 ≤ r → chargeCount plan * 2 ≤ l → chargeCount plan * 3 ≤ u →
+    HasRoom plan (take (plan .resources .count * 82) (replicate r 0)) (take (chargeCount plan * 2) (replicate l 0)) (take (chargeCount plan * 3) (replicate u (pos 0)))
+arrays-room plan r l u f g h =
     record {
-      forDays = e;
-      forLinks = sym (front-long {A = ℕ} l 0 (chargeCount (asked .opened .plan) * 2) f);
-      forUnits = sym (front-long u (pos 0) (chargeCount (asked .opened .plan) * 3) g);
-      forRates = sym (front-long {A = ℕ} r 0 (asked .opened .plan .resources .count * 82) h);
+      forRates = sym (front-long {A = ℕ} r 0 (plan .resources .count * 82) f);
+      forLinks = sym (front-long {A = ℕ} l 0 (chargeCount plan * 2) g);
+      forUnits = sym (front-long u (pos 0) (chargeCount plan * 3) h);
     }
 
 -- ---- the stretch of the planned spans
@@ -99,27 +100,39 @@ module _ {s : List ℕ} {asked : Asked} {schedule : List ℕ} (a : IsAsked s ask
 
   -- ---- the tables
 
-  module _ {days : List ℕ} (room : asked .opened .plan .calendars .count * widthOf asked ≤ length days) where
-    pub asked-spans : AreSpans (asked .known .from) (widthOf asked) days schedule
-    asked-spans = spans-are asked-plan (a .scheduled) (a .covers) room
+  module _ {days : List ℕ} (room : asked .opened .plan .calendars .count * datesOf (asked .known) ≤ length days) {rates links : List ℕ} {units : List ℤ} {heads : List ℕ}
+      (charged : IsCharged s asked rates links units heads)
+    where
+      -- what laying needs
+      pub asked-ready : AreCharged (asked .frame .assignments) rates links units heads × AreSpans (asked .frame .base) (asked .frame .width) days schedule
+      asked-ready =
+          subst (λ (f : Frame). AreCharged (f .assignments) rates links units heads × AreSpans (f .base) (f .width) days schedule) (sym (a .framed))
+          (record { book = content s; are = charged }, spans-are asked-plan (a .scheduled) (a .covers) room)
 
-    pub asked-listed : ShowsAll (alikeIn layout.calendar s (asked .opened .plan .calendars)) (asked .known .from) (asked .known .to) days → IsScheduled (content s) (asked .known .from) (widthOf asked) days schedule
-    asked-listed = spans-listed asked-plan (a .scheduled) (a .covers) room
+      -- and what is laid then
+      pub asked-laid :
+          ShowsAll (alikeIn layout.calendar s (asked .opened .plan .calendars)) (asked .known .from) (asked .known .to) days → {before after : List ℕ} →
+          ((b : Book) → Charged b (asked .frame .assignments) rates links units heads → IsScheduled b (asked .frame .base) (asked .frame .width) days schedule → Laid (asked .frame .base) (budgetByDay b) before after) →
+          Laid (asked .known .from) (budgetByDay (content s)) before after
+      asked-laid shown {before} {after} l =
+          subst
+          (λ (f : Frame). ((b : Book) → Charged b (f .assignments) rates links units heads → IsScheduled b (f .base) (f .width) days schedule → Laid (f .base) (budgetByDay b) before after)) (a .framed) l
+          (content s) charged (spans-listed asked-plan (a .scheduled) (a .covers) room shown)
 
   pub asked-charged :
       {links : List ℕ} {units : List ℤ} → AreTables (content s) (asked .opened .plan .assignments .count) links units →
       {rates : List ℕ} → rates ≡ flatMap rateRow (alikeIn layout.resource s (asked .opened .plan .resources)) → {after heads : List ℕ} → Chained links after heads →
-      Charged (content s) (asked .opened .plan .assignments .count) rates after units heads
+      IsCharged s asked rates after units heads
   unfolding ratesOf
   asked-charged t e c = charged-are t asked-range (e ∙ sym (ap (flatMap rateRow) (asked-plan .resources .listed))) c
 
   -- ---- tables for all dates of a book
 
-  pub full-dates : widthOf asked ≤ 36525
+  pub full-dates : datesOf (asked .known) ≤ 36525
   full-dates = omega (arith, a .covers .least, a .covers .most)
 
-  pub full-days : asked .opened .plan .calendars .count * widthOf asked ≤ 584400
-  full-days = omega (arith, full-dates, mul-le-mul-right (widthOf asked) (calendars-most asked-plan))
+  pub full-days : asked .opened .plan .calendars .count * datesOf (asked .known) ≤ 584400
+  full-days = omega (arith, full-dates, mul-le-mul-right (datesOf (asked .known)) (calendars-most asked-plan))
 
   pub full-charges : chargeCount (asked .opened .plan) ≤ 3000
   full-charges = omega (arith, assignments-most asked-plan, expenses-most asked-plan)
@@ -127,7 +140,7 @@ module _ {s : List ℕ} {asked : Asked} {schedule : List ℕ} (a : IsAsked s ask
   -- ---- the points
 
   -- a table of so many dates has those that are asked
-  pub asked-reach : (n : ℕ) {table : List ℕ} → length table ≡ n → widthOf asked * 2 ≤ n → Reaches (asked .known .from) table (asked .from) (asked .to)
+  pub asked-reach : (n : ℕ) {table : List ℕ} → length table ≡ n → datesOf (asked .known) * 2 ≤ n → Reaches (asked .known .from) table (asked .from) (asked .to)
   asked-reach n e h =
       record {
         start = a .begins;
@@ -137,7 +150,7 @@ module _ {s : List ℕ} {asked : Asked} {schedule : List ℕ} (a : IsAsked s ask
 
   -- what is laid onto an empty table of n numbers makes the rows
   pub asked-rows :
-      (n : ℕ) {table : List ℕ} → Laid (asked .known .from) (budgetByDay (content s)) (replicate n 0) table → widthOf asked * 2 ≤ n → {out after : List ℕ} {r : Reply} →
+      (n : ℕ) {table : List ℕ} → Laid (asked .known .from) (budgetByDay (content s)) (replicate n 0) table → datesOf (asked .known) * 2 ≤ n → {out after : List ℕ} {r : Reply} →
       Puts (map pointRow (grained (asked .grain) (pointsIn (asked .known .from) table (asked .from) (asked .to)))) out r after →
       Puts (map pointRow (grained (asked .grain) (spendingBetween (content s) (asked .from) (asked .to)))) out r after
   unfolding spendingBetween

@@ -13,11 +13,11 @@ use Rattle.model.specs.Days.{plannedDays, daysOf}
 use Rattle.model.specs.Amounts.{Dated, isBetween, isCharged}
 use Rattle.model.specs.Costs.{budgetByDay, spending, spendingBetween}
 use Rattle.model.specs.Months.{spendingByMonth}
-use Rattle.model.proofs.Lists.{keep-all}
+use Rattle.lists.proofs.Lists.{keep-all}
 use Rattle.model.proofs.Days.{day-list-within}
 use Rattle.model.proofs.Points.{all-dates, spending-within}
-use Rattle.spending.specs.declared.budgets.Grain.{Grain}
-use Rattle.spending.specs.declared.budgets.Grain.the-variants.{Day, Month}
+use Rattle.spending.specs.declared.asked.Grain.{Grain}
+use Rattle.spending.specs.declared.asked.Grain.the-variants.{Day, Month}
 use Rattle.bydate.specs.Months.{byMonth}
 use Rattle.bydate.proofs.Monthly.{no-months}
 use Rattle.spending.specs.Grained.{grained}

@@ -2,17 +2,16 @@
 use Prim.Native.Nat.{ℕ, zero, suc, _-_, _<_}
 use mathlib.Core.Path.{_≡_, refl, sym, ap, _∙_}
 use mathlib.Core.Bool.{Bool, true, false, true≢false, cond, _||_}
-use mathlib.Core.List.{List, [], _∷_, _++_, map, flatMap, zipWith, List·Memᴰ, List·Memᴰ·head, List·Memᴰ·tail}
+use mathlib.Core.List.{List, [], _∷_, map, List·Memᴰ, List·Memᴰ·tail}
 use mathlib.Core.Option.{Option, none, some}
 use native.Mathlib.Omega.{arith}
-use borrow.Author.Tests.{eqb-true}
 use lib.Dec.{eqb}
 use lib.IntN.{ℤ}
 use lib.ListN.{length, take, drop, length-map}
 use Rattle.format.specs.declared.Accrual.{Accrual}
 use Rattle.format.specs.declared.Accrual.the-variants.{Start, End, Uniform}
 use Rattle.format.specs.Book.{Activity, Book}
-use Rattle.holidays.specs.Holiday.{any}
+use Rattle.lists.specs.Lists.{any}
 use Rattle.money.specs.Scale.{pricedAt}
 use Rattle.money.specs.Shares.{spread}
 use Rattle.model.specs.declared.Way.the-variants.{Planned}
@@ -20,7 +19,8 @@ use Rattle.model.specs.Days.{daysOf}
 use Rattle.model.specs.Amounts.{Dated, on, dated, spreadOver, isDated, isCharged}
 use Rattle.model.specs.Tree.{parents, indices}
 use Rattle.model.specs.Costs.{priced, accrued, pricedBy, byDay, budgetByDay}
-use Rattle.model.proofs.Lists.{span-in, take-in}
+use Rattle.lists.proofs.Spans.{span-in}
+use Rattle.lists.proofs.Lists.{take-in}
 use Rattle.bydate.proofs.Falling.{charged-some, charged-dated}
 use Rattle.spending.specs.Charged.{Charge, work, cost, charges, chargedTo, chargedOver, chargeOf}
 use Rattle.spending.proofs.Charging.{by-day}

@@ -2,8 +2,8 @@
 use mathlib.Core.List.{List}
 use Rattle.model.specs.Amounts.{Dated}
 use Rattle.bydate.specs.Months.{byMonth}
-use Rattle.spending.specs.declared.budgets.Grain.{Grain}
-use Rattle.spending.specs.declared.budgets.Grain.the-variants.{Day, Month}
+use Rattle.spending.specs.declared.asked.Grain.{Grain}
+use Rattle.spending.specs.declared.asked.Grain.the-variants.{Day, Month}
 
 -- the points as they are, or those of the months, each from its first day
 unfoldable pub grained : Grain → List Dated → List Dated

@@ -1,5 +1,6 @@
 pub mod Priced
 pub mod Chained
 pub mod Charged
+pub mod Asking
 pub mod Budgeted
 pub mod Grained

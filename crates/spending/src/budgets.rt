@@ -1,37 +1,27 @@
-// What is charged to the budgets of an accepted book, laid onto a table by date.
+// The tables of what is charged to the budgets of an accepted book: its charges and the rates of its resources, in arrays for few of them, or for as many as a book may have.
+use crate::asked::Asked;
 use crate::chains::chain;
-use crate::charged::Frame;
-use crate::charged::lay_activities;
-use activities::Stretch;
+use crate::dated::dated_rows;
+use answers::Reply;
 use answers::open::Opened;
-use calendar::all::fill_all;
 use charges::assigned::fill_assigned;
 use charges::expensed::fill_expensed;
+use prices::rates::RATE_WIDTH;
 use prices::rates::fill_rates;
-ghost use Prim.Native.Nat.{_+_, _*_, _-_, _≤_};
+ghost use Prim.Native.Nat.{_*_};
+ghost use mathlib.Core.Bool.{true};
+ghost use mathlib.Core.List.{map};
 ghost use mathlib.Core.Path.{_≡_};
 ghost use lib.ListN.{length};
 ghost use Rattle.format.specs.Verdict.{content};
 ghost use Rattle.book.specs.Plan.{IsPlanOf};
-ghost use Rattle.model.specs.Costs.{budgetByDay};
-ghost use Rattle.bydate.specs.Laid.{Laid};
-ghost use Rattle.spending.specs.Budgeted.{IsAsked, chargeCount, HasRoom};
+ghost use Rattle.model.specs.Costs.{spendingBetween};
+ghost use Rattle.answers.specs.Calls.{Puts};
+ghost use Rattle.answers.specs.Rows.{pointRow};
+ghost use Rattle.spending.specs.Asking.{IsAsked};
+ghost use Rattle.spending.specs.Budgeted.{chargeCount, HasRoom, AreFew};
 ghost use Rattle.spending.specs.Charged.{AreTables};
-
-// A row for each date, or one for each month.
-pub enum Grain {
-    Day,
-    Month,
-}
-
-// What is asked of an opened book: by day or by month, between two dates of the stretch that its planned days take.
-pub struct Asked {
-    pub opened: Opened,
-    pub grain: Grain,
-    pub known: Stretch,
-    pub from: u64,
-    pub to: u64,
-}
+ghost use Rattle.spending.specs.Grained.{grained};
 
 // The assignments, and behind them the expenses.
 fn fill_charges(book: &[u8], opened: Opened, links: &mut [u64], units: &mut [i64])
@@ -47,35 +37,75 @@ fn fill_charges(book: &[u8], opened: Opened, links: &mut [u64], units: &mut [i64
     fill_expensed(book, date, opened.plan, &mut links[a..], &mut units[b..]);
 }
 
-// All that is charged to the budgets. The other tables are to work in.
-pub fn lay_budgets(
+// The rows, with slices for the charges and the rates.
+fn charged_rows(
     book: &[u8],
     asked: Asked,
     schedule: &[u64],
-    days: &mut [u8],
+    rates: &mut [u64],
     links: &mut [u64],
     units: &mut [i64],
-    rates: &mut [u64],
-    table: &mut [u64],
-)
+    out: &mut [u64],
+) -> Reply
     requires { ⌜ IsAsked (now book) asked (now schedule) ⌝ }
-    requires { ⌜ HasRoom asked (now days) (now links) (now units) (now rates) ⌝ }
-    ensures { λ r. ⌜ Laid (asked .known .from) (budgetByDay (content (now (book .entry)))) (now (table .entry)) (now (table .exit)) ⌝ }
+    requires { ⌜ HasRoom (asked .opened .plan) (now rates) (now links) (now units) ⌝ }
+    ensures { λ r. ⌜ Puts (map pointRow (grained (asked .grain) (spendingBetween (content (now (book .entry))) (asked .from) (asked .to)))) (now (out .entry)) r (now (out .exit)) ⌝ }
 {
-    fill_all(
-        book,
-        asked.opened.plan.calendars,
-        asked.known.from,
-        asked.known.to,
-        days,
-    );
     fill_rates(book, asked.opened.plan.resources, rates);
     fill_charges(book, asked.opened, links, units);
     let heads = chain(links);
-    let frame = Frame {
-        base: asked.known.from,
-        width: asked.known.to + 1 - asked.known.from,
-        assignments: asked.opened.plan.assignments.count,
-    };
-    lay_activities(schedule, rates, links, units, &heads, days, frame, table);
+    dated_rows(book, asked, schedule, rates, links, units, &heads, out)
+}
+
+// Whether so many charges and resources are few.
+pub fn are_few(charges: u64, resources: u64) -> bool
+    ensures { λ r. ⌜ (r ≡ true → AreFew charges resources) ⌝ }
+{
+    if 256 < charges {
+        return false;
+    }
+    resources <= 24
+}
+
+// The rows, where there are few.
+pub fn few_rows(book: &[u8], asked: Asked, schedule: &[u64], out: &mut [u64]) -> Reply
+    requires { ⌜ IsAsked (now book) asked (now schedule) ⌝ }
+    requires { ⌜ AreFew (chargeCount (asked .opened .plan)) (asked .opened .plan .resources .count) ⌝ }
+    ensures { λ r. ⌜ Puts (map pointRow (grained (asked .grain) (spendingBetween (content (now (book .entry))) (asked .from) (asked .to)))) (now (out .entry)) r (now (out .exit)) ⌝ }
+{
+    let mut rates = [0u64; 1968];
+    let mut links = [0u64; 512];
+    let mut units = [0i64; 768];
+    let r = asked.opened.plan.resources.count as usize;
+    let n = (asked.opened.plan.assignments.count + asked.opened.plan.expenses.count) as usize;
+    charged_rows(
+        book,
+        asked,
+        schedule,
+        &mut rates[..r * RATE_WIDTH],
+        &mut links[..n * 2],
+        &mut units[..n * 3],
+        out,
+    )
+}
+
+// The rows, for as many as a book may have.
+pub fn many_rows(book: &[u8], asked: Asked, schedule: &[u64], out: &mut [u64]) -> Reply
+    requires { ⌜ IsAsked (now book) asked (now schedule) ⌝ }
+    ensures { λ r. ⌜ Puts (map pointRow (grained (asked .grain) (spendingBetween (content (now (book .entry))) (asked .from) (asked .to)))) (now (out .entry)) r (now (out .exit)) ⌝ }
+{
+    let mut rates = [0u64; 16400];
+    let mut links = [0u64; 6000];
+    let mut units = [0i64; 9000];
+    let r = asked.opened.plan.resources.count as usize;
+    let n = (asked.opened.plan.assignments.count + asked.opened.plan.expenses.count) as usize;
+    charged_rows(
+        book,
+        asked,
+        schedule,
+        &mut rates[..r * RATE_WIDTH],
+        &mut links[..n * 2],
+        &mut units[..n * 3],
+        out,
+    )
 }

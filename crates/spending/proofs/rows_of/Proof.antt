@@ -1,5 +1,5 @@
 -- `rows_of` meets its contract: the schedule is lent as far as the book has activities.
-use Prim.Native.Nat.{ℕ, _*_}
+use Prim.Native.Nat.{ℕ}
 use mathlib.Core.Path.{sym}
 use native.Mathlib.Omega.{arith}
 use Rattle.book.proofs.Plan.{activities-most}
@@ -14,11 +14,11 @@ mul-n c = omega (arith, activities-most (c .before .before .pre .plan))
 array-borrow-prefix-schedule : tie.Need-array-borrow-prefix-schedule
 array-borrow-prefix-schedule c = omega (arith, activities-most (c .before .before .pre .plan))
 
-slice-aggregate-rows-by : tie.Need-slice-aggregate-rows-by
-slice-aggregate-rows-by c = front-long {A = ℕ} 6500 0 _ (omega (arith, activities-most (c .before .before .before .pre .plan)))
+slice-aggregate-scheduled-rows : tie.Need-slice-aggregate-scheduled-rows
+slice-aggregate-scheduled-rows c = front-long {A = ℕ} 6500 0 _ (omega (arith, activities-most (c .before .before .before .pre .plan)))
 
-rows-by-requires : tie.Need-rows-by-requires
-rows-by-requires c κs = (c .before .before .before .before .pre, sym (front-long {A = ℕ} 6500 0 _ (omega (arith, activities-most (c .before .before .before .before .pre .plan)))))
+scheduled-rows-requires : tie.Need-scheduled-rows-requires
+scheduled-rows-requires c κs = (c .before .before .before .before .pre, sym (front-long {A = ℕ} 6500 0 _ (omega (arith, activities-most (c .before .before .before .before .pre .plan)))))
 
 same-length : tie.Need-same-length
 same-length c = search needs
@@ -32,7 +32,7 @@ rows-of-spec =
     (tie.spec
     mul-n
     array-borrow-prefix-schedule
-    slice-aggregate-rows-by
-    rows-by-requires
+    slice-aggregate-scheduled-rows
+    scheduled-rows-requires
     same-length
     returns)

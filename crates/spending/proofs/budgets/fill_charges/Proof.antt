@@ -1,8 +1,8 @@
 -- `fill_charges` meets its contract: the two parts are the assignments and the expenses.
-use mathlib.Core.Path.{_≡_, sym}
+use mathlib.Core.Path.{sym}
 use Prim.Native.Nat.{_*_}
 use native.Mathlib.Omega.{arith}
-use lib.ListN.{length, drop, length-drop}
+use lib.ListN.{drop, length-drop}
 use lib.Seq.{length-take-le}
 use Rattle.book.proofs.Plan.{assignments-count}
 use Rattle.charges.proofs.Assigning.{links-length, units-length}

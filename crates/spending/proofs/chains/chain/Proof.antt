@@ -1,5 +1,5 @@
 -- `chain` meets its contract: the loop keeps that the charges from the next one on are chained.
-use Prim.Native.Nat.{_-_, _*_, _+_}
+use Prim.Native.Nat.{_-_}
 use mathlib.Core.Path.{refl}
 use native.Mathlib.Omega.{arith}
 use Rattle.spending.proofs.Chaining.{Chaining, chaining-none, chaining-past, chaining-more, chaining-end}

@@ -1,10 +1,10 @@
 -- `lay_expense` meets its contract, by how it accrues.
 use mathlib.Core.Path.{sym, ap, ap₂, _∙_}
-use mathlib.Core.List.{List, [], _∷_}
+use mathlib.Core.List.{[], _∷_}
 use Prim.Native.Nat.{ℕ}
 use lib.IntN.{ℤ}
 use mir.Facts.{toZ-ofZ}
-use Rattle.model.specs.Amounts.{Dated, on, spreadOver}
+use Rattle.model.specs.Amounts.{on, spreadOver}
 use Rattle.model.specs.Costs.{accrued}
 use Rattle.bydate.specs.Listed.{workedIn, listedIn}
 use Rattle.bydate.proofs.Laying.{laid-same}

@@ -2,11 +2,11 @@
 use mathlib.Core.Path.{sym, ap}
 use Rattle.bydate.specs.Pointed.{pointsIn}
 use Rattle.bydate.proofs.Writing.{puts-same}
-use Rattle.spending.specs.declared.budgets.Grain.{Grain}
+use Rattle.spending.specs.declared.asked.Grain.{Grain}
 use Rattle.spending.specs.Grained.{grained}
 use borrow.Author.Needs.{needs}
-use Rattle.spending.proofs.write_rows.Statement.{statement}
-use Rattle.spending.proofs.write_rows.Tie as tie
+use Rattle.spending.proofs.dated.write_rows.Statement.{statement}
+use Rattle.spending.proofs.dated.write_rows.Tie as tie
 
 enum-told : tie.Need-enum-told
 enum-told c = search needs

@@ -1,0 +1,169 @@
+// The rows by date from the charges of an accepted book: small tables by date where they are enough, else tables for all dates of a book.
+use crate::asked::Asked;
+use crate::asked::Grain;
+use crate::charged::lay_activities;
+use answers::Reply;
+use bydate::months::write_months;
+use bydate::points::write_points;
+use bydate::sizes::fits_small;
+use calendar::all::fill_all;
+ghost use mathlib.Core.List.{map};
+ghost use mathlib.Core.Path.{_≡_};
+ghost use lib.ListN.{length};
+ghost use Rattle.format.specs.Format as layout;
+ghost use Rattle.format.specs.Verdict.{content};
+ghost use Rattle.book.specs.Sections.{alikeIn};
+ghost use Rattle.model.specs.Costs.{budgetByDay, spendingBetween};
+ghost use Rattle.calendar.specs.Tables.{ShowsAll};
+ghost use Rattle.answers.specs.Calls.{Puts};
+ghost use Rattle.answers.specs.Rows.{pointRow};
+ghost use Rattle.bydate.specs.Laid.{Laid};
+ghost use Rattle.bydate.specs.Pointed.{pointsIn, Reaches};
+ghost use Rattle.bydate.specs.Sizes.{FitsSmall};
+ghost use Rattle.spending.specs.Asking.{IsAsked, IsCharged};
+ghost use Rattle.spending.specs.Grained.{grained};
+
+// The rows of the points of a table between the dates that are asked.
+fn write_rows(asked: Asked, table: &[u64], out: &mut [u64]) -> Reply
+    requires { ⌜ Reaches (asked .known .from) (now table) (asked .from) (asked .to) ⌝ }
+    ensures { λ r. ⌜ Puts (map pointRow (grained (asked .grain) (pointsIn (asked .known .from) (now (table .entry)) (asked .from) (asked .to)))) (now (out .entry)) r (now (out .exit)) ⌝ }
+{
+    let grain = asked.grain;
+    match grain {
+        Grain::Day => write_points(asked.known.from, asked.from, asked.to, table, out),
+        Grain::Month => write_months(asked.known.from, asked.from, asked.to, table, out),
+    }
+}
+
+// The rows, by small tables.
+fn small_rows(
+    book: &[u8],
+    asked: Asked,
+    schedule: &[u64],
+    rates: &[u64],
+    links: &[u64],
+    units: &[i64],
+    heads: &[u64; 500],
+    out: &mut [u64],
+) -> Reply
+    requires { ⌜ IsAsked (now book) asked (now schedule) ⌝ }
+    requires { ⌜ IsCharged (now book) asked (now rates) (now links) (now units) (now heads) ⌝ }
+    requires { ⌜ FitsSmall (asked .opened .plan .calendars .count) (asked .known) ⌝ }
+    ensures { λ r. ⌜ Puts (map pointRow (grained (asked .grain) (spendingBetween (content (now (book .entry))) (asked .from) (asked .to)))) (now (out .entry)) r (now (out .exit)) ⌝ }
+{
+    let mut days = [0u8; 8192];
+    let mut table = [0u64; 4096];
+    fill_all(
+        book,
+        asked.opened.plan.calendars,
+        asked.known.from,
+        asked.known.to,
+        &mut days,
+    );
+    lay_activities(
+        schedule,
+        rates,
+        links,
+        units,
+        heads,
+        &days,
+        asked.frame,
+        &mut table,
+    );
+    write_rows(asked, &table, out)
+}
+
+// The days of the calendars, with room for as many dates and calendars as a book may have.
+fn fill_full(book: &[u8], asked: Asked, schedule: &[u64], days: &mut [u8; 584400])
+    requires { ⌜ IsAsked (now book) asked (now schedule) ⌝ }
+    ensures { λ r. ⌜ ShowsAll (alikeIn layout.calendar (now (book .entry)) (asked .opened .plan .calendars)) (asked .known .from) (asked .known .to) (now (days .exit)) ⌝ }
+    ensures { λ r. ⌜ length (now (days .exit)) ≡ 584400 ⌝ }
+{
+    fill_all(
+        book,
+        asked.opened.plan.calendars,
+        asked.known.from,
+        asked.known.to,
+        days,
+    );
+}
+
+// Lays what is charged, by a table of days for all dates of a book.
+fn lay_full(
+    book: &[u8],
+    asked: Asked,
+    schedule: &[u64],
+    rates: &[u64],
+    links: &[u64],
+    units: &[i64],
+    heads: &[u64; 500],
+    table: &mut [u64; 73050],
+)
+    requires { ⌜ IsAsked (now book) asked (now schedule) ⌝ }
+    requires { ⌜ IsCharged (now book) asked (now rates) (now links) (now units) (now heads) ⌝ }
+    ensures { λ r. ⌜ Laid (asked .known .from) (budgetByDay (content (now (book .entry)))) (now (table .entry)) (now (table .exit)) ⌝ }
+    ensures { λ r. ⌜ length (now (table .exit)) ≡ 73050 ⌝ }
+{
+    let mut days = [0u8; 584400];
+    fill_full(book, asked, schedule, &mut days);
+    lay_activities(
+        schedule,
+        rates,
+        links,
+        units,
+        heads,
+        &days,
+        asked.frame,
+        table,
+    );
+}
+
+// The rows, by tables for all dates of a book.
+fn full_rows(
+    book: &[u8],
+    asked: Asked,
+    schedule: &[u64],
+    rates: &[u64],
+    links: &[u64],
+    units: &[i64],
+    heads: &[u64; 500],
+    out: &mut [u64],
+) -> Reply
+    requires { ⌜ IsAsked (now book) asked (now schedule) ⌝ }
+    requires { ⌜ IsCharged (now book) asked (now rates) (now links) (now units) (now heads) ⌝ }
+    ensures { λ r. ⌜ Puts (map pointRow (grained (asked .grain) (spendingBetween (content (now (book .entry))) (asked .from) (asked .to)))) (now (out .entry)) r (now (out .exit)) ⌝ }
+{
+    let mut table = [0u64; 73050];
+    lay_full(
+        book,
+        asked,
+        schedule,
+        rates,
+        links,
+        units,
+        heads,
+        &mut table,
+    );
+    write_rows(asked, &table, out)
+}
+
+// The rows, by the smallest tables by date that are enough.
+pub fn dated_rows(
+    book: &[u8],
+    asked: Asked,
+    schedule: &[u64],
+    rates: &[u64],
+    links: &[u64],
+    units: &[i64],
+    heads: &[u64; 500],
+    out: &mut [u64],
+) -> Reply
+    requires { ⌜ IsAsked (now book) asked (now schedule) ⌝ }
+    requires { ⌜ IsCharged (now book) asked (now rates) (now links) (now units) (now heads) ⌝ }
+    ensures { λ r. ⌜ Puts (map pointRow (grained (asked .grain) (spendingBetween (content (now (book .entry))) (asked .from) (asked .to)))) (now (out .entry)) r (now (out .exit)) ⌝ }
+{
+    if fits_small(asked.opened.plan.calendars.count, asked.known) {
+        return small_rows(book, asked, schedule, rates, links, units, heads, out);
+    }
+    full_rows(book, asked, schedule, rates, links, units, heads, out)
+}
