@@ -3,8 +3,8 @@ use Prim.Native.Nat.{ℕ}
 use native.Mathlib.Omega.{arith}
 use mathlib.Core.Path.{_≡_, sym, _∙_}
 use mathlib.Core.List.{List, map}
-use lib.ListN.{length, length-map}
-use Rattle.format.specs.Book.{Activity, Book}
+use lib.ListN.{length}
+use Rattle.format.specs.Book.{Book}
 use Rattle.format.specs.Verdict.{content}
 use Rattle.format.proofs.Theorems.{content-in-range}
 use Rattle.fields.specs.declared.OptionalNumber.{OptionalNumber}
@@ -13,19 +13,18 @@ use Rattle.book.specs.declared.layout.Ledger.{Ledger}
 use Rattle.book.specs.Plan.{IsPlanOf, IsLedgerOf}
 use Rattle.book.proofs.Plan.{activities-count, activities-most, budgets-in-range, log-in-range}
 use Rattle.model.specs.Tree.{parents}
+use Rattle.model.proofs.Tree.{parents-count as named-count}
 use Rattle.activities.specs.Columns.{parentNumber}
 use Rattle.ledger.specs.Arguments.{IsBudgets, IsLog, AreParents}
 use Rattle.ledger.proofs.Handed.{above-length}
 
 -- as many numbers as parents
 pub numbers-parents : {book : Book} {numbers : List ℕ} → AreParents book numbers → length numbers ≡ length (parents book)
-unfolding parents
-numbers-parents {book} w = above-length w ∙ sym (length-map (book .activities) (λ (a : Activity). a .parent))
+numbers-parents {book} w = above-length w ∙ sym (named-count book)
 
 module _ {s : List ℕ} {date : OptionalNumber} {plan : Plan} (p : IsPlanOf s date plan) where
   pub parents-count : length (parents (content s)) ≡ plan .activities .count
-  unfolding parents
-  parents-count = length-map (content s .activities) (λ (a : Activity). a .parent) ∙ activities-count p
+  parents-count = named-count (content s) ∙ activities-count p
 
   pub plan-parents : {numbers : List ℕ} → numbers ≡ map parentNumber (content s .activities) → AreParents (content s) numbers
   unfolding parentNumber

@@ -7,14 +7,14 @@ use mathlib.Core.Option.{none, some}
 use lib.IntN.{ℤ, pos}
 use lib.ListN.{length, length-map}
 use Rattle.format.specs.Book.{Activity, Book}
-use Rattle.model.specs.Lists.{span, keep}
+use Rattle.lists.specs.Lists.{span, keep}
 use Rattle.model.specs.Tree.{parents, leaves}
 use Rattle.money.specs.Costs.{sumOf}
-use Rattle.model.specs.Costs.{ownCost, costOf, noCost, projectCost}
+use Rattle.model.specs.Costs.{costOf, noCost, projectCost}
 use Rattle.model.specs.Budgets.{BudgetLine, lineAccounts, depthOf, lineFor, budgetLines}
 use Rattle.tree.specs.Figures.{parentsOf, figureOf}
-use Rattle.tree.specs.Tables.{costFigures, ownCosts, rolledCosts}
-use Rattle.tree.proofs.Spans.{rows-length, rows-at}
+use Rattle.tree.specs.Tables.{costFigures, rolledCosts}
+use Rattle.flat.proofs.Spans.{rows-length, rows-at}
 use Rattle.flat.proofs.Tables.{flat-map}
 use Rattle.rows.specs.Rows.{numbers}
 use Rattle.answers.specs.Rows.{budgetRow, budgetRows}

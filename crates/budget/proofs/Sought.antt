@@ -1,16 +1,12 @@
 -- The budget of one account, looked for, and its changes, added up.
 use Prim.Native.Nat.{ℕ, _+_}
 use mathlib.Core.Path.{_≡_, refl, sym, ap, _∙_}
-use mathlib.Core.Bool.{Bool, true, false, cond}
-use mathlib.Core.List.{List, [], _∷_, map, foldl}
-use lib.IntN.{ℤ, _+ℤ_}
+use mathlib.Core.Bool.{Bool, true, false}
+use mathlib.Core.List.{List, [], _∷_}
 use lib.ListN.{getD, drop}
-use mir.Syntax.{w64}
-use Rattle.integer.specs.Clamp.{clamp}
-use Rattle.integer.specs.Folds.{saturated}
 use Rattle.format.specs.Book.{Budget}
 use Rattle.format.specs.Format.{names}
-use Rattle.model.specs.Lists.{consIf, keep}
+use Rattle.lists.specs.Lists.{consIf, keep}
 use Rattle.model.specs.Budgets.{Account, noBudget}
 
 abbrev heldBy : Account → Budget → Bool
@@ -38,14 +34,3 @@ module _ {o : Account} {bs : List Budget} {i : ℕ} (w : Seeking o bs i) where
   pub seeking-end : drop i bs ≡ [] → getD (keep (heldBy o) bs) 0 (noBudget o) ≡ noBudget o
   unfolding keep
   seeking-end e = ap (λ (xs : List Budget). getD xs 0 (noBudget o)) (sym (w .rest) ∙ ap (keep (heldBy o)) e)
-
--- those that pass a test, added up
-pub saturated-kept :
-    {A : Type 0} (p : A → Bool) (f : A → ℤ) (s : ℤ) (xs : List A) → foldl (λ (t : ℤ) (x : A). cond (p x) (clamp w64 (t +ℤ f x)) t) s xs ≡ saturated w64 s (map f (keep p xs))
-unfolding saturated keep
-saturated-kept p f s [] = refl
-saturated-kept p f s (x ∷ xs) = saturated-kept p f (cond (p x) (clamp w64 (s +ℤ f x)) s) xs ∙ go (p x)
-  where
-    go : (b : Bool) → saturated w64 (cond b (clamp w64 (s +ℤ f x)) s) (map f (keep p xs)) ≡ saturated w64 s (map f (consIf b x (keep p xs)))
-    go true = refl
-    go false = refl

@@ -1,5 +1,6 @@
 // The lines of a book with activities.
 use crate::scheduled::scheduled;
+use activities::schedule::SCHEDULE_WIDTH;
 use activities::schedule::copy_parents;
 use activities::schedule::fill_schedule;
 use activities::schedule::parent_marks;
@@ -9,6 +10,7 @@ use answers::open::Opened;
 use ledger::hand_up;
 use ledger::lines::put_lines;
 use ledger::marks::count_marked;
+use tree::table::COST_WIDTH;
 ghost use mathlib.Core.Path.{_≡_};
 ghost use mathlib.Core.List.{map};
 ghost use Prim.Native.Nat.{ℕ, _*_, _≤_, _<_};
@@ -63,7 +65,7 @@ fn put_all(
     ensures { λ r. ⌜ now (out .exit) ≡ numbers (budgetRows (content (now (book .entry)))) ⌝ }
 {
     let mut costs = [0i64; 1500];
-    let n = opened.plan.activities.count as usize * 3;
+    let n = opened.plan.activities.count as usize * COST_WIDTH;
     put_in(
         book,
         opened,
@@ -155,7 +157,7 @@ pub fn lines_of(
     lines_in(
         book,
         opened,
-        &mut schedule[..n * 13],
+        &mut schedule[..n * SCHEDULE_WIDTH],
         &mut parents[..n],
         accounts,
         marks,

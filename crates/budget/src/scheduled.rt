@@ -2,6 +2,7 @@
 use activities::schedule::parent_marks;
 use answers::open::Opened;
 use costs::own::own_costs;
+use tree::table::COST_WIDTH;
 use tree::table::leaf_row_sum;
 use tree::table::roll_rows;
 ghost use mathlib.Core.Path.{_≡_};
@@ -32,9 +33,9 @@ fn schedule_in(
 {
     let date = opened.date;
     own_costs(book, date, opened.plan, schedule, own);
-    roll_rows(parents, 3, own, out);
+    roll_rows(parents, COST_WIDTH, own, out);
     let leaves = parent_marks(schedule);
-    leaf_row_sum(&leaves, 3, 0, own)
+    leaf_row_sum(&leaves, COST_WIDTH, 0, own)
 }
 
 // The same, with memory of its own.
@@ -52,6 +53,6 @@ pub fn scheduled(
     ensures whole { λ r. ⌜ r ≡ projectCost (content (now (book .entry))) .budget ⌝ }
 {
     let mut own = [0i64; 1500];
-    let n = opened.plan.activities.count as usize * 3;
+    let n = opened.plan.activities.count as usize * COST_WIDTH;
     schedule_in(book, opened, schedule, parents, &mut own[..n], out)
 }

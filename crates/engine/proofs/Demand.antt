@@ -1,6 +1,6 @@
 -- The client's third demand over lent memory: what is read there are the definitions' figures, so the sentences hold of it.
 use Prim.Native.Nat.{ℕ, _≤_, _<_}
-use mathlib.Core.Path.{_≡_, refl, sym, ap, ap₂, _∙_}
+use mathlib.Core.Path.{_≡_, refl, ap, ap₂, _∙_}
 use mathlib.Core.List.{List, [], _∷_, _++_, map, List·Memᴰ}
 use native.Mathlib.Omega.{arith}
 use lib.IntN.{ℤ, pos}
@@ -10,32 +10,27 @@ use mir.Syntax.{w64}
 use mir.Val.{SFits}
 use Rattle.money.specs.Words.{bits, ofBits}
 use Rattle.format.specs.Bytes.{Bytes}
-use Rattle.format.specs.Book.{Activity, Book}
 use Rattle.format.specs.Verdict.{content}
 use Rattle.format.specs.InRange.{InRange}
 use Rattle.format.proofs.Theorems.{content-in-range, verdict-accepts}
 use Rattle.rows.specs.Rows.{numbers}
-use Rattle.rows.proofs.Columns.{made-length}
+use Rattle.lists.proofs.Spans.{made-length, made-at}
 use Rattle.model.specs.declared.Earned.{Earned}
-use Rattle.model.specs.Lists.{span}
+use Rattle.lists.specs.Lists.{span}
 use Rattle.model.specs.Amounts.{Dated, on}
 use Rattle.model.specs.Tree.{parents}
 use Rattle.model.specs.Planned.{plannedCurveBetween}
 use Rattle.model.specs.Earned.{earnedAt, earnedValue, projectEarned}
 use Rattle.model.specs.Demand.{NoOwnAncestor, SmallBudgets, PlannedValue}
-use Rattle.model.proofs.Lists.{made-at, got-in}
+use Rattle.lists.proofs.Lists.{got-in}
 use Rattle.model.proofs.EarnedValue.{earned-planned-fits, earned-budget-fits, project-planned-fits}
 use Rattle.model.proofs.Curve.{curve-fits}
 use Rattle.model.proofs.Demand.{Reads, planned-value-read}
+use Rattle.model.proofs.Tree.{parents-count}
 use Rattle.answers.specs.Rows.{pointRow, earnedRow, earnedValueRows, projectEarnedRows, plannedCurveRows}
 use Rattle.answers.specs.Calls.{left, replyPlace}
 use Rattle.answers.proofs.Accepted.{accepted-book, accepted-count, accepted-lent, number-is, figure-is}
 use Rattle.engine.specs.Demand.{numberAt, pointIn, LentAt, IsAccepted, atDate, between, earnedReply, projectReply, curveReply, AllAccepted, lentReading, lentCurve}
-
--- a parent is named by each activity
-count-is : (book : Book) → length (parents book) ≡ length (book .activities)
-unfolding parents
-count-is book = length-map (book .activities) (λ (a : Activity). a .parent)
 
 -- ---- the calls at a status date
 module _ (s : List ℕ) (at : LentAt) (k : ℕ) (l : k < 6) (f : Earned → ℤ) (put : (e : Earned) → getD (earnedRow e) k 0 ≡ bits (f e)) where
@@ -46,7 +41,7 @@ module _ (s : List ℕ) (at : LentAt) (k : ℕ) (l : k < 6) (f : Earned → ℤ)
   earned-read a i h fits =
       let row : ℕ → Earned = earnedAt (content s) (at .date) in
       let n = length (parents (content s)) in
-      let here : i < n = omega (arith, count-is (content s)) in
+      let here : i < n = omega (arith, parents-count (content s)) in
       ap (λ (out : List ℕ). ofBits (numberAt 6 out i k)) (accepted-lent (atDate (at .date)) (earnedValueRows (at .date)) s (at .earned) (a .1))
       ∙ figure-is 6 earnedRow (λ e. refl) k l f put (earnedValue (content s) (at .date)) (row 0) _ i (omega (arith, made-length row n)) (row i) (made-at row (row 0) n i here) fits
 

@@ -5,7 +5,7 @@ use mathlib.Core.List.{List, [], _∷_, map}
 use lib.IntN.{ℤ}
 use lib.ListN.{length, getD}
 use Rattle.money.specs.Words.{ofBits}
-use Rattle.model.specs.Lists.{span}
+use Rattle.lists.specs.Lists.{span}
 use Rattle.model.specs.Amounts.{Dated, on}
 use Rattle.model.specs.Demand.{Reading}
 use Rattle.answers.specs.declared.Reply.{Reply}

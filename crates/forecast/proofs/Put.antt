@@ -10,7 +10,8 @@ use Rattle.model.specs.declared.Earned.{Earned}
 use Rattle.model.specs.declared.Indices.{Indices}
 use Rattle.model.specs.Forecast.{indicesOf}
 use Rattle.rows.specs.Rows.{optional}
-use Rattle.rows.proofs.Sets.{sets-on, sets-whole, optional-two}
+use Rattle.rows.proofs.Sets.{optional-two}
+use Rattle.flat.proofs.Sets.{sets-on, sets-whole}
 use Rattle.answers.specs.Rows.{estimatesRow, indexBits, indicesRow, forecastRow}
 
 module _ (x : Indices) where

@@ -11,7 +11,7 @@ use lib.Seq.{getD-set-same, getD-set-other}
 use mir.Syntax.{w64}
 use borrow.Author.Tests.{eqb-true, eqb-false}
 use Rattle.integer.specs.Folds.{saturated}
-use Rattle.model.specs.Lists.{consIf, keep}
+use Rattle.lists.specs.Lists.{consIf, keep}
 use Rattle.tree.specs.Figures.{figureOf, saturatingAdd, addAt}
 
 -- two tests that agree on what is in the list

@@ -16,13 +16,13 @@ use Rattle.format.specs.Book.{Activity, Book}
 use Rattle.format.specs.Format.{names}
 use Rattle.book.specs.Sections.{markOf}
 use Rattle.book.proofs.Marks.{Small, place-below}
-use Rattle.model.specs.Lists.{span, keep}
+use Rattle.lists.specs.Lists.{span, keep}
 use Rattle.model.specs.Lookup.{noActivity}
 use Rattle.model.specs.Tree.{parents, parentOf}
 use Rattle.model.specs.Budgets.{Account, currentOf, hasLine, lineAccounts, distributedOf}
-use Rattle.model.proofs.Lists.{map-same, keep-in, keep-none, span-in}
+use Rattle.lists.proofs.Lists.{map-same, keep-in, keep-none, at-map}
+use Rattle.lists.proofs.Spans.{span-in}
 use Rattle.tree.specs.Figures.{saturatingAdd, MarksLeaves}
-use Rattle.tree.proofs.Walks.{at-map}
 use Rattle.ledger.specs.Accounts.{accountAt, accountRow, booked, accounts, accountFigure, currentIn, markedBy, isMarked, markedOf, MarksLines, givenUp}
 use Rattle.ledger.specs.Arguments.{AreParents, IsBooked, IsHanded}
 use Rattle.ledger.proofs.Numbered.{small-given, same-place, activity-at, accounts-length, account-figure, accounts-are}

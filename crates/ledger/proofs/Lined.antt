@@ -9,11 +9,12 @@ use lib.ListN.{length, getD, length-append}
 use Rattle.format.specs.Book.{Book}
 use Rattle.book.specs.Sections.{markOf}
 use Rattle.book.proofs.Marks.{Small, place-below}
-use Rattle.model.specs.Lists.{span}
+use Rattle.lists.specs.Lists.{span}
 use Rattle.model.specs.Tree.{Parents, parents, walk, steps, stepsMade}
 use Rattle.model.specs.Costs.{costOf, projectCost}
 use Rattle.model.specs.Budgets.{Account, BudgetLine, currentOf, proposedOf, distributedOf, hasLine, lineAccounts, depthOf, lineFor, budgetLines}
-use Rattle.model.proofs.Lists.{map-same, keep-in, span-in}
+use Rattle.lists.proofs.Lists.{map-same, keep-in}
+use Rattle.lists.proofs.Spans.{span-in}
 use Rattle.tree.specs.Figures.{parentsOf, figureOf}
 use Rattle.rows.specs.Rows.{optional}
 use Rattle.rows.proofs.Sets.{optional-two}

@@ -13,17 +13,16 @@ use borrow.Author.Tests.{eqb-true, eqb-false, eq-eqb}
 use Rattle.format.specs.InRange.{Every, BudgetInRange, BudgetChangeInRange}
 use Rattle.format.specs.Book.{Budget, BudgetChange, Book}
 use Rattle.format.specs.Format.{names}
-use Rattle.holidays.specs.Holiday.{any}
-use Rattle.model.specs.Lists.{span, consIf, keep}
+use Rattle.lists.specs.Lists.{any, span, consIf, keep}
 use Rattle.model.specs.Tree.{parents}
 use Rattle.model.specs.Budgets.{isNamed, hasLine, lineAccounts}
-use Rattle.model.proofs.Lists.{span-in, in-span, in-any, any-some, keep-in, in-keep, keep-length}
+use Rattle.lists.proofs.Spans.{span-in, in-span, span-length}
+use Rattle.lists.proofs.Lists.{in-any, any-some, keep-in, in-keep, keep-length}
 use Rattle.tree.specs.Figures.{MarksLeaves}
-use Rattle.tree.proofs.Spans.{span-length}
 use Rattle.ledger.specs.Accounts.{accountAt, budgetPlace, changePlace, markedBy, isMarked, markedOf, MarksNamed, MarksLines}
 use Rattle.ledger.proofs.Numbered.{small-given, same-place, activity-at}
 use Rattle.ledger.proofs.Changed.{kept-alike}
-use Rattle.ledger.proofs.Taken.{every-in}
+use Rattle.format.proofs.Every.{every-in}
 
 -- ---- one mark
 

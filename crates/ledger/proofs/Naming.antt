@@ -1,9 +1,9 @@
 -- A loop over the budgets: those before are read, and what they name is marked.
 use Prim.Native.Nat.{ℕ, _+_, _<_, _≤_}
-use mathlib.Core.Path.{_≡_, sym, ap, subst, _∙_}
+use mathlib.Core.Path.{_≡_, sym, ap, subst}
 use mathlib.Core.List.{List, [], _∷_}
 use mathlib.Core.Option.{Option}
-use lib.ListN.{length, drop, set, replicate, length-replicate}
+use lib.ListN.{drop, set, replicate}
 use Rattle.format.specs.declared.Pos.{Pos}
 use Rattle.format.specs.Book as book
 use Rattle.format.specs.Field.{index}
@@ -36,13 +36,6 @@ naming-none {s} {list} {n} ask e =
     }
 
 module _ {s : List ℕ} {n count i : ℕ} {marks : List ℕ} {q : Pos} (w : Naming s n count i marks q) where
-  pub naming-long : length marks ≡ 501
-  naming-long = w .marked .long
-
-  -- what is lent keeps its length
-  pub naming-kept : (lent : List ℕ) → lent ≡ replicate 501 0 → length marks ≡ length lent
-  naming-kept lent e = naming-long ∙ sym (ap length e ∙ length-replicate {A = ℕ} 501 0)
-
   pub naming-end : count ≤ i → drop i (content s .budgets) ≡ []
   naming-end h = reading-end (w .reading) h
 

@@ -15,7 +15,7 @@ use Rattle.format.specs.Format.{names}
 use Rattle.book.specs.Sections.{markOf}
 use Rattle.book.proofs.Marks.{Small}
 use Rattle.model.specs.Budgets.{Account}
-use Rattle.tree.proofs.Spans.{rows-length, rows-at, rows-cells}
+use Rattle.flat.proofs.Spans.{rows-length, rows-at, rows-cells}
 use Rattle.ledger.specs.Accounts.{accountAt, accountRow, accountsWith, accountFigure}
 
 -- ---- whose a row is

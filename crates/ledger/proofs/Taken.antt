@@ -1,10 +1,10 @@
 -- What the budgets and the log make of an empty table: the figures that are booked.
 use Prim.Native.Nat.{ℕ, zero, suc, _+_, _*_, _≤_, _<_}
 use native.Mathlib.Omega.{arith}
-use mathlib.Core.Path.{_≡_, refl, sym, ap, subst, _∙_}
-use mathlib.Core.Logic.{_⊎_, inl, inr, ⊎-elim}
+use mathlib.Core.Path.{_≡_, refl, sym, ap, _∙_}
+use mathlib.Core.Logic.{_⊎_, inl, inr}
 use mathlib.Core.Bool.{Bool, true, false, _&&_, cond}
-use mathlib.Core.List.{List, [], _∷_, map, foldl, List·Memᴰ, List·Memᴰ·not-nil, List·Memᴰ·cases-cons}
+use mathlib.Core.List.{List, [], _∷_, map, foldl, List·Memᴰ}
 use mathlib.Core.Option.{none}
 use lib.Dec.{eqb}
 use lib.IntN.{ℤ, pos}
@@ -18,20 +18,14 @@ use Rattle.format.specs.Enumeration.{changeStatusNumber}
 use Rattle.format.specs.InRange.{Every, NoTwoAlike, BudgetInRange, BudgetChangeInRange}
 use Rattle.format.specs.Book.{Budget, BudgetChange, Book}
 use Rattle.format.specs.Format.{names}
+use Rattle.format.proofs.Every.{every-in}
 use Rattle.book.proofs.Marks.{Small}
-use Rattle.model.specs.Lists.{consIf, keep}
+use Rattle.lists.specs.Lists.{consIf, keep}
 use Rattle.model.specs.Budgets.{Account, noBudget, budgetFor, isChange, changes}
-use Rattle.model.proofs.Lists.{keep-none}
-use Rattle.tree.proofs.Walks.{at-map}
+use Rattle.lists.proofs.Lists.{keep-none, at-map}
 use Rattle.ledger.specs.Accounts.{accountAt, accountRow, booked, accountFigure, budgetPlace, changePlace, budgetTaken, changeTaken}
 use Rattle.ledger.proofs.Numbered.{small-given, account-is, same-place, accounts-are}
 use Rattle.ledger.proofs.Changed.{set-figure, folded-length, folded-at, added-length, added-at}
-
--- what holds of every element holds of each
-pub every-in : {A : Type 0} (P : A → Type 0) (xs : List A) → Every P xs → (x : A) → List·Memᴰ x xs → P x
-every-in P [] h x m = absurd (List·Memᴰ·not-nil m)
-every-in P (y ∷ ys) h x m =
-    ⊎-elim (λ e. subst P (sym e) (h 0 y (omega arith))) (λ r. every-in P ys (λ k d l. h (suc k) d (omega arith)) x r) (List·Memᴰ·cases-cons m)
 
 -- ---- the budgets: an account has one at most
 

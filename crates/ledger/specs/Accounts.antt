@@ -13,7 +13,7 @@ use Rattle.format.specs.declared.ChangeStatus.the-variants.{Pending, Approved, 
 use Rattle.format.specs.Enumeration.{changeStatusNumber}
 use Rattle.format.specs.Book.{Budget, BudgetChange, Book}
 use Rattle.book.specs.Sections.{markOf}
-use Rattle.model.specs.Lists.{span, keep}
+use Rattle.lists.specs.Lists.{span, keep}
 use Rattle.model.specs.Tree.{parents}
 use Rattle.model.specs.Budgets.{Account, budgetFor, changes, distributedOf, isNamed, hasLine}
 use Rattle.tree.specs.Figures.{figureOf, saturatingAdd, addAt, isUnmarked}

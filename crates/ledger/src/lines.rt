@@ -9,6 +9,7 @@ use crate::accounts::figure;
 use fields::OptionalNumber;
 use money::sums::saturating_add;
 use money::words::to_bits;
+use tree::table::COST_WIDTH;
 use tree::walk_up;
 ghost use mathlib.Core.Path.{_≡_};
 ghost use mathlib.Core.List.{flatMap};
@@ -58,7 +59,7 @@ fn line_of(i: usize, parents: &[u64], costs: &[i64], accounts: &[i64; 3006]) -> 
     ensures { λ r. ⌜ lineOf r ≡ activityLine (now (accounts .entry)) (now (parents .entry)) (now (costs .entry)) i ⌝ }
 {
     let steps = walk_up(parents, i, parents.len() as u64);
-    let scheduled = costs[i * 3];
+    let scheduled = costs[i * COST_WIDTH];
     line_at(
         OptionalNumber::Present(i as u64),
         1 + steps,

@@ -1,21 +1,20 @@
 -- The rows of earned value and of performance: their sizes, and what is answered with them.
-use Prim.Native.Nat.{ℕ, _*_, _≤_, _<_}
+use Prim.Native.Nat.{ℕ, _≤_, _<_}
 use native.Mathlib.Omega.{arith}
 use mathlib.Core.Path.{_≡_, refl, ap, sym, _∙_}
-use mathlib.Core.List.{List, [], _∷_, _++_}
-use lib.ListN.{length, set, drop, length-map}
+use mathlib.Core.List.{List, [], _∷_}
+use lib.ListN.{length, set, length-map}
 use lib.Seq.{sets, sets-eq, set-split}
 use Rattle.floats.specs.Figures.{bitsOf}
 use Rattle.format.specs.Book.{Book}
 use Rattle.model.specs.Tree.{parents, indices}
 use Rattle.model.specs.Earned.{earnedAt, earnedValue, projectEarned, performance}
-use Rattle.tree.proofs.Spans.{span-length}
-use Rattle.rows.specs.Rows.{numbers}
+use Rattle.lists.proofs.Spans.{span-length}
 use Rattle.answers.specs.declared.Reply.the-variants.{Accepted}
 use Rattle.answers.specs.Rows.{earnedRow, earnedValueRows, projectEarnedRows, performanceRows}
 use Rattle.answers.specs.Calls.{Puts}
 use Rattle.answers.proofs.Sized.{Sized, sized, one-sized, one-numbers, in-front}
-use Rattle.baseline.proofs.Listing.{parents-count}
+use Rattle.model.proofs.Tree.{parents-count}
 use Rattle.value.specs.Figures.{width}
 use Rattle.value.proofs.Reading.{row-six}
 

@@ -1,10 +1,12 @@
 // The activities' own figures of earned value at a date, from the book.
 use activities::schedule::fill_schedule;
 use answers::open::Opened;
+use baseline::listed::LISTED_WIDTH;
 use baseline::listed::list_spans;
 use costs::own::own_costs;
 use earned::dated::date_values;
 use earned::measured::measure;
+use tree::table::COST_WIDTH;
 ghost use Prim.Native.Nat.{_*_};
 ghost use mathlib.Core.Path.{_≡_};
 ghost use lib.ListN.{length};
@@ -71,8 +73,8 @@ pub fn own_values(book: &[u8], opened: Opened, date: u64, schedule: &mut [u64], 
         opened,
         date,
         schedule,
-        &mut costs[..n * 3],
-        &mut listed[..n * 3],
+        &mut costs[..n * COST_WIDTH],
+        &mut listed[..n * LISTED_WIDTH],
         &mut budgets[..n],
         own,
     );

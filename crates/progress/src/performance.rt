@@ -1,5 +1,5 @@
 // How much of an activity is done, under the technique of the book.
-use activities::schedule::fill_schedule;
+use activities::schedule::row_at;
 use answers::Reply;
 use answers::TOO_SHORT;
 use answers::open::Opened;
@@ -16,27 +16,21 @@ ghost use Rattle.answers.specs.Rows.{performanceRows};
 ghost use Rattle.answers.specs.Calls.{Puts};
 ghost use Rattle.answers.specs.Opened.{IsOpened};
 
-// With a schedule to fill, and a table of zeros for the units.
-fn measure_by(
-    book: &[u8],
-    opened: Opened,
-    activity: u64,
-    schedule: &mut [u64],
-    units: &mut [i64],
-) -> f64
+// With a table of zeros for the units.
+fn measure_by(book: &[u8], opened: Opened, activity: u64, units: &mut [i64]) -> f64
     requires { ⌜ IsOpened (now book) opened ⌝ }
     requires { ⌜ activity < opened .plan .activities .count ⌝ }
-    requires { ⌜ (length (now schedule) ≡ opened .plan .activities .count * 13) × (length (now units) ≡ opened .plan .activities .count * 2) × ((k : ℕ) → getD (now units) k (pos 0) ≡ pos 0) ⌝ }
+    requires { ⌜ (length (now units) ≡ opened .plan .activities .count * 2) × ((k : ℕ) → getD (now units) k (pos 0) ≡ pos 0) ⌝ }
     ensures { λ r. ⌜ r ≡ model.performance (content (now (book .entry))) activity ⌝ }
 {
     let data_date = opened.date;
     let technique = opened.technique;
-    fill_schedule(book, data_date, opened.plan, schedule);
+    let row = row_at(book, data_date, opened.plan, activity);
     fill_units(book, data_date, opened.plan, technique, units);
     let i = activity as usize;
     let done = units[i * 2];
     let all = units[i * 2 + 1];
-    share_done(technique, schedule, i, done, all)
+    share_done(technique, &row, 0, done, all)
 }
 
 // Of activity i.
@@ -46,15 +40,8 @@ fn performance(book: &[u8], opened: Opened, activity: u64) -> f64
     ensures { λ r. ⌜ r ≡ model.performance (content (now (book .entry))) activity ⌝ }
 {
     let count = opened.plan.activities.count as usize;
-    let mut schedule = [0u64; 6500];
     let mut units = [0i64; 1000];
-    measure_by(
-        book,
-        opened,
-        activity,
-        &mut schedule[..count * 13],
-        &mut units[..count * 2],
-    )
+    measure_by(book, opened, activity, &mut units[..count * 2])
 }
 
 // One number, where it fits.

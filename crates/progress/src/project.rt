@@ -1,10 +1,12 @@
 // Earned value of the project: the leaves' own figures, added up.
 use crate::own::own_values;
+use activities::schedule::SCHEDULE_WIDTH;
 use activities::schedule::parent_marks;
 use answers::Reply;
 use answers::TOO_SHORT;
 use answers::open::Opened;
 use model::Earned;
+use tree::table::VALUE_WIDTH;
 use value::WIDTH;
 use value::put_earned;
 use value::sums;
@@ -55,8 +57,8 @@ pub fn project_earned(book: &[u8], opened: Opened, date: u64) -> Earned
         book,
         opened,
         date,
-        &mut schedule[..count * 13],
-        &mut own[..count * 5],
+        &mut schedule[..count * SCHEDULE_WIDTH],
+        &mut own[..count * VALUE_WIDTH],
     )
 }
 

@@ -1,12 +1,13 @@
 // Earned value of the activities: each activity's own figures, and those of the activities below it.
 use crate::own::own_values;
+use activities::schedule::SCHEDULE_WIDTH;
 use activities::schedule::copy_parents;
 use answers::Reply;
 use answers::TOO_SHORT;
 use answers::open::Opened;
 use model::Earned;
+use tree::table::VALUE_WIDTH;
 use tree::table::roll_rows;
-use value::FIGURES;
 use value::WIDTH;
 use value::earned_at;
 use value::put_values;
@@ -30,7 +31,7 @@ fn roll_by(schedule: &[u64], parents: &mut [u64], own: &[i64], out: &mut [i64])
     ensures { λ r. ⌜ ((book : Book) (date : ℕ) → InRange book → length (book .activities) ≤ 500 → now (schedule .entry) ≡ scheduleOf book → now (own .entry) ≡ ownValues book date → now (out .exit) ≡ rolledValues book date) ⌝ }
 {
     copy_parents(schedule, parents);
-    roll_rows(parents, FIGURES, own, out);
+    roll_rows(parents, VALUE_WIDTH, own, out);
 }
 
 // The own figures, then rolled up.
@@ -90,9 +91,9 @@ pub fn earned_value_of(book: &[u8], opened: Opened, date: u64, out: &mut [u64]) 
         book,
         opened,
         date,
-        &mut schedule[..count * 13],
-        &mut own[..count * 5],
-        &mut rolled[..count * 5],
+        &mut schedule[..count * SCHEDULE_WIDTH],
+        &mut own[..count * VALUE_WIDTH],
+        &mut rolled[..count * VALUE_WIDTH],
         &mut out[..n],
     );
     Reply::Accepted(count as u64)
@@ -132,8 +133,8 @@ pub fn activity_earned(book: &[u8], opened: Opened, date: u64, activity: u64) ->
         opened,
         date,
         activity,
-        &mut schedule[..count * 13],
-        &mut own[..count * 5],
-        &mut rolled[..count * 5],
+        &mut schedule[..count * SCHEDULE_WIDTH],
+        &mut own[..count * VALUE_WIDTH],
+        &mut rolled[..count * VALUE_WIDTH],
     )
 }

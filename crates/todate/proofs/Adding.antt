@@ -10,7 +10,7 @@ use lib.IntN.{ℤ, pos, _+ℤ_}
 use lib.ListN.{length, getD, set, length-set}
 use lib.Seq.{getD-set-other}
 use mir.Syntax.{w64}
-use borrow.Author.Tests.{eq-eqb, ne-eqb}
+use borrow.Author.Tests.{ne-eqb}
 use Rattle.integer.specs.Clamp.{clamp}
 use Rattle.calendar.specs.Changes.{Changed, ofCalendar, ofFirst, ofRow, ofFigure}
 use Rattle.calendar.proofs.Changes.{changed-none, changed-then, changed-same, changed-figure, first-none, first-more, first-all}

@@ -3,21 +3,21 @@ use Prim.Native.Nat.{ℕ, _+_, _*_, _<_}
 use native.Mathlib.Numerals.{add-one, add-two, add-three, add-four, add-five}
 use native.Mathlib.Omega.{arith}
 use mathlib.Core.Path.{_≡_, refl, ap, sym, _∙_}
-use mathlib.Core.List.{List, [], _∷_, map, flatMap}
+use mathlib.Core.List.{List, map, flatMap}
 use lib.IntN.{ℤ, pos}
 use lib.ListN.{length, getD, set, length-map}
 use lib.Seq.{sets}
 use Rattle.money.specs.Words.{bits}
 use Rattle.format.specs.Book.{Activity, Book}
 use Rattle.model.specs.declared.Earned.{Earned}
-use Rattle.model.specs.Lists.{span}
+use Rattle.lists.specs.Lists.{span}
 use Rattle.model.specs.Tree.{parents, indices}
 use Rattle.model.specs.Earned.{earnedAt, earnedValue, spentIn}
-use Rattle.model.proofs.Lists.{span-in}
+use Rattle.lists.proofs.Spans.{span-in}
 use Rattle.flat.proofs.Tables.{flat-same, flat-map}
 use Rattle.tree.specs.Figures.{figureOf}
 use Rattle.tree.specs.Tables.{earnedFigures, rolledValues}
-use Rattle.tree.proofs.Spans.{rows-at}
+use Rattle.flat.proofs.Spans.{rows-at}
 use Rattle.rows.specs.Rows.{numbers}
 use Rattle.rows.proofs.Numbers.{numbers-flat}
 use Rattle.answers.specs.Rows.{earnedRow, earnedValueRows}

@@ -2,6 +2,7 @@
 use model::Earned;
 use money::scale::spent;
 use money::words::to_bits;
+use tree::table::VALUE_WIDTH;
 use tree::table::leaf_row_sum;
 ghost use Prim.Native.Nat.{ℕ, _+_, _*_, _≤_, _<_};
 ghost use mathlib.Core.Path.{_≡_};
@@ -16,9 +17,6 @@ ghost use Rattle.rows.specs.Rows.{numbers};
 ghost use Rattle.answers.specs.Rows.{earnedRow, earnedValueRows};
 ghost use Rattle.value.specs.Figures.{figures, width, earnedIn};
 
-// The figures of an activity in a table: budget, planned value, earned value, actual cost, remaining cost.
-pub const FIGURES: usize = 5;
-
 // The numbers of a row that is answered: the figures, and what is spent of the budget.
 pub const WIDTH: usize = 6;
 
@@ -27,7 +25,7 @@ pub fn earned_at(table: &[i64], i: usize) -> Earned
     requires { ⌜ i * figures + 4 < length (now table) ⌝ }
     ensures { λ r. ⌜ r ≡ earnedIn (now (table .entry)) i ⌝ }
 {
-    let at = i * FIGURES;
+    let at = i * VALUE_WIDTH;
     Earned {
         budget: table[at],
         planned: table[at + 1],
@@ -68,10 +66,10 @@ pub fn sums(marks: &[u64], own: &[i64]) -> Earned
     ensures { λ r. ⌜ ((book : Book) (date : ℕ) → MarksLeaves (now (marks .entry)) (parents book) → now (own .entry) ≡ ownValues book date → r ≡ projectEarned book date) ⌝ }
 {
     Earned {
-        budget: leaf_row_sum(marks, FIGURES, 0, own),
-        planned: leaf_row_sum(marks, FIGURES, 1, own),
-        earned: leaf_row_sum(marks, FIGURES, 2, own),
-        actual: leaf_row_sum(marks, FIGURES, 3, own),
-        remaining: leaf_row_sum(marks, FIGURES, 4, own),
+        budget: leaf_row_sum(marks, VALUE_WIDTH, 0, own),
+        planned: leaf_row_sum(marks, VALUE_WIDTH, 1, own),
+        earned: leaf_row_sum(marks, VALUE_WIDTH, 2, own),
+        actual: leaf_row_sum(marks, VALUE_WIDTH, 3, own),
+        remaining: leaf_row_sum(marks, VALUE_WIDTH, 4, own),
     }
 }

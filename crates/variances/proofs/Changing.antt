@@ -12,9 +12,9 @@ use lib.Seq.{sets, ext-getD, getD-set-same, getD-set-other, length-sets}
 use borrow.Author.Tests.{eq-eqb, ne-eqb}
 use Rattle.flat.proofs.Cells.{row-inside, cell-apart}
 use Rattle.flat.proofs.Tables.{flat-same}
-use Rattle.model.specs.Lists.{span}
-use Rattle.model.proofs.Lists.{made-at, span-in}
-use Rattle.tree.proofs.Spans.{span-length, rows-length, rows-at, rows-cells}
+use Rattle.lists.specs.Lists.{span}
+use Rattle.lists.proofs.Spans.{made-at, span-in, span-length}
+use Rattle.flat.proofs.Spans.{rows-length, rows-at, rows-cells}
 use Rattle.variances.specs.Changed.{rowOf, changed, RowChanged}
 
 module _ (width : ℕ) where

@@ -5,7 +5,7 @@ use mathlib.Core.List.{List, map}
 use native.Mathlib.Omega.{arith}
 use lib.IntN.{ℤ, pos}
 use lib.ListN.{length, getD, length-map}
-use Rattle.format.specs.Book.{Activity, Book}
+use Rattle.format.specs.Book.{Book}
 use Rattle.format.specs.Verdict.{content}
 use Rattle.fields.specs.declared.OptionalNumber.{OptionalNumber}
 use Rattle.book.specs.declared.layout.Plan.{Plan}
@@ -13,23 +13,20 @@ use Rattle.book.specs.Plan.{IsPlanOf}
 use Rattle.book.proofs.Plan.{activities-count}
 use Rattle.model.specs.Tree.{parents}
 use Rattle.model.specs.Costs.{costOf}
+use Rattle.model.proofs.Tree.{parents-count}
 use Rattle.activities.specs.Columns.{parentNumber}
 use Rattle.activities.proofs.Scheduling.{parents-of}
 use Rattle.tree.specs.Figures.{rolledRows, figureOf}
 use Rattle.tree.specs.Tables.{costFigures, ownCosts, rolledCosts}
 use Rattle.tree.proofs.Figured.{costs-rolled}
-use Rattle.tree.proofs.Spans.{rows-length, rows-at}
+use Rattle.flat.proofs.Spans.{rows-length, rows-at}
 use Rattle.variances.specs.Completion.{Costed}
-
-count-is : (book : Book) → length (parents book) ≡ length (book .activities)
-unfolding parents
-count-is book = length-map (book .activities) (λ (a : Activity). a .parent)
 
 rolled-costed : (book : Book) (costs : List ℤ) → costs ≡ rolledCosts book → Costed book costs
 unfolding rolledCosts
 rolled-costed book costs e =
     record {
-      long = ap length e ∙ rows-length 3 row wide n ∙ ap (λ (k : ℕ). k * 3) (count-is book);
+      long = ap length e ∙ rows-length 3 row wide n ∙ ap (λ (k : ℕ). k * 3) (parents-count book);
       actual = λ i h. at i 1 h (omega arith);
       remaining = λ i h. at i 2 h (omega arith);
     }
@@ -44,7 +41,7 @@ rolled-costed book costs e =
     wide i = refl
 
     at : (i j : ℕ) → i < length (book .activities) → j < 3 → figureOf costs (i * 3 + j) ≡ getD (row i) j (pos 0)
-    at i j h l = ap (λ (t : List ℤ). getD t (i * 3 + j) (pos 0)) e ∙ rows-at 3 row wide n i j (pos 0) (omega (arith, count-is book)) l
+    at i j h l = ap (λ (t : List ℤ). getD t (i * 3 + j) (pos 0)) e ∙ rows-at 3 row wide n i j (pos 0) (omega (arith, parents-count book)) l
 
 module _ {s : List ℕ} {date : OptionalNumber} {plan : Plan} (p : IsPlanOf s date plan) {numbers : List ℕ} (e : numbers ≡ map parentNumber (content s .activities)) where
   pub numbers-count : length numbers ≡ plan .activities .count

@@ -6,17 +6,16 @@ use mathlib.Core.Path.{_≡_, ap, ap₂, _∙_}
 use mathlib.Core.Bool.{Bool, true, false}
 use mathlib.Core.List.{List, [], _∷_}
 use lib.IntN.{ℤ, pos}
-use lib.ListN.{length, getD}
+use lib.ListN.{length}
 use lib.Seq.{sets}
 use Rattle.integer.specs.Linear.{eq-in, dif}
 use Rattle.format.specs.Book.{Calendar}
 use Rattle.money.specs.Words.{bits}
-use Rattle.model.specs.Lists.{span, consIf, keep}
+use Rattle.lists.specs.Lists.{span, consIf, keep}
 use Rattle.model.specs.Calendar.{isWorking}
 use Rattle.model.specs.Variances.{workingUpTo, workingBetween}
 use Rattle.calendar.specs.Tables.{entry, Counts}
 use Rattle.activities.specs.declared.Stretch.{Stretch}
-use Rattle.activities.specs.Schedule.{entryAt}
 use Rattle.variances.specs.Days.{dated, InStretch, Reaches, HasCount, Counted, countedBetween}
 
 module _ (p : ℕ → Bool) where

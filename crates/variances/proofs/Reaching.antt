@@ -9,8 +9,7 @@ use lib.ListN.{length, getD}
 use Rattle.format.specs.InRange.{IsDate}
 use Rattle.activities.specs.declared.Stretch.{Stretch}
 use Rattle.variances.specs.Changed.{rowOf}
-use Rattle.activities.specs.Schedule.{entryAt}
-use Rattle.variances.specs.Days.{hasLine, Tables, InStretch, Reaches, Bounded, widened, AreDates, Takes, Dated}
+use Rattle.variances.specs.Days.{hasLine, InStretch, Reaches, Bounded, widened, AreDates, Takes, Dated}
 use Rattle.variances.proofs.Changing.{row-at}
 
 pub widened-none : (known : Stretch) (date : ℕ) → date ≡ 0 → known ≡ widened known date

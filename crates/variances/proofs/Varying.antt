@@ -18,17 +18,16 @@ use Rattle.book.specs.declared.Section.{Section}
 use Rattle.book.specs.declared.layout.Plan.{Plan}
 use Rattle.book.specs.Sections.{alikeIn}
 use Rattle.book.specs.Plan.{IsPlanOf}
-use Rattle.book.proofs.Plan.{activities-count}
-use Rattle.book.proofs.Index.{alike-length}
+use Rattle.book.proofs.Plan.{activities-count, alike-length}
 use Rattle.money.proofs.Bits.{there-and-back}
 use Rattle.model.specs.declared.Way.the-variants.{Planned}
 use Rattle.model.specs.Lookup.{noActivity}
 use Rattle.model.specs.Calendar.{calendarOf}
 use Rattle.model.specs.Tree.{parents, indices}
 use Rattle.model.specs.Variances.{Variance, lastAmong, lastLine, varianceFrom, varianceBy, varianceOf, variances}
-use Rattle.model.proofs.Lists.{span-in}
+use Rattle.lists.proofs.Spans.{span-in, span-length}
 use Rattle.flat.proofs.Tables.{flat-same, flat-map}
-use Rattle.tree.proofs.Spans.{span-length, rows-length, rows-cells}
+use Rattle.flat.proofs.Spans.{rows-length, rows-cells}
 use Rattle.rows.specs.Rows.{numbers}
 use Rattle.activities.specs.Columns.{calendarNumber, firstDate, lastDate}
 use Rattle.activities.specs.Schedule.{scheduleOf, entryAt}
@@ -36,7 +35,8 @@ use Rattle.activities.proofs.Scheduling.{schedule-calendar, schedule-length, ca
 use Rattle.answers.specs.Rows.{varianceRow, variancesRows}
 use Rattle.answers.proofs.Sized.{Sized, sized}
 use Rattle.baseline.specs.Lines.{lineRow, linesTable, Zeros, IsLines}
-use Rattle.baseline.proofs.Listing.{parents-count, line-range}
+use Rattle.baseline.proofs.Listing.{line-range}
+use Rattle.model.proofs.Tree.{parents-count}
 use Rattle.variances.specs.Changed.{rowOf, changed}
 use Rattle.variances.specs.Days.{hasLine, datedBy, Tables, allRows, Dated}
 use Rattle.variances.specs.Completion.{settled, Timed, Costed}

@@ -5,7 +5,7 @@ use mathlib.Core.Bool.{cond}
 use mathlib.Core.List.{List, map, flatMap}
 use lib.Dec.{eqb}
 use lib.ListN.{length, getD}
-use Rattle.model.specs.Lists.{span}
+use Rattle.lists.specs.Lists.{span}
 
 -- row i
 unfoldable pub rowOf : ℕ → List ℕ → ℕ → List ℕ

@@ -1,11 +1,14 @@
 // The baseline's minutes less those of the schedule, and its costs less the costs at completion.
+use activities::schedule::SCHEDULE_WIDTH;
 use activities::schedule::WORKING;
 use baseline::lines::COST;
+use baseline::lines::LINE_WIDTH;
 use baseline::lines::MINUTES;
 use money::sums::saturating_add;
 use money::sums::saturating_sub;
 use money::words::from_bits;
 use money::words::to_bits;
+use tree::table::COST_WIDTH;
 ghost use Prim.Native.Nat.{_+_, _*_, _/_, _≤_};
 ghost use mathlib.Core.Path.{_≡_};
 ghost use lib.ListN.{length, getD};
@@ -38,13 +41,13 @@ fn settle_row(i: usize, schedule: &[u64], costs: &[i64], out: &mut [u64])
     requires { ⌜ IsMinutes (getD (now out) (i * 5 + 3) 0) × IsMinutes (entryAt (now schedule) i 9) ⌝ }
     ensures { λ r. ⌜ RowChanged 5 i (settled (now (schedule .entry)) (now (costs .entry)) i) (now (out .entry)) (now (out .exit)) ⌝ }
 {
-    let at = i * 5;
+    let at = i * LINE_WIDTH;
     if out[at] == 0 {
         return;
     }
-    let spent = costs[i * 3 + 1];
-    let left = costs[i * 3 + 2];
-    let minutes = duration(out[at + MINUTES], schedule[i * 13 + WORKING]);
+    let spent = costs[i * COST_WIDTH + 1];
+    let left = costs[i * COST_WIDTH + 2];
+    let minutes = duration(out[at + MINUTES], schedule[i * SCHEDULE_WIDTH + WORKING]);
     let amount = cost(out[at + COST], spent, left);
     out[at + MINUTES] = minutes;
     out[at + COST] = amount;

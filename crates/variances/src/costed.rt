@@ -2,6 +2,7 @@
 use book::layout::Plan;
 use costs::own::own_costs;
 use fields::OptionalNumber;
+use tree::table::COST_WIDTH;
 use tree::table::roll_rows;
 ghost use Prim.Native.Nat.{_*_};
 ghost use mathlib.Core.Path.{_≡_};
@@ -31,5 +32,5 @@ pub fn rolled_costs(
     ensures rolled { λ r. ⌜ Costed (content (now (book .entry))) (now (out .exit)) ⌝ }
 {
     own_costs(book, data_date, plan, schedule, own);
-    roll_rows(parents, 3, own, out);
+    roll_rows(parents, COST_WIDTH, own, out);
 }

@@ -1,7 +1,9 @@
 // The rows of the lines with working days instead of dates: calendar by calendar, its working dates over a stretch counted once.
 use activities::Stretch;
 use activities::schedule::CALENDAR;
+use activities::schedule::SCHEDULE_WIDTH;
 use baseline::lines::FINISH;
+use baseline::lines::LINE_WIDTH;
 use baseline::lines::START;
 use book::Section;
 use book::calendars::Calendar;
@@ -42,10 +44,10 @@ fn is_under(i: usize, number: u64, schedule: &[u64], out: &[u64]) -> bool
     requires { ⌜ (i * 13 + 13 ≤ length (now schedule)) × (i * 5 + 5 ≤ length (now out)) ⌝ }
     ensures { λ r. ⌜ r ≡ isUnder (now (schedule .entry)) number i (rowOf 5 (now (out .entry)) i) ⌝ }
 {
-    if out[i * 5] == 0 {
+    if out[i * LINE_WIDTH] == 0 {
         return false;
     }
-    schedule[i * 13 + CALENDAR] == number
+    schedule[i * SCHEDULE_WIDTH + CALENDAR] == number
 }
 
 // Of one activity, where its calendar is the one that is counted.
@@ -63,8 +65,8 @@ fn count_row(
     ensures { λ r. ⌜ RowChanged 5 i (datedUnder (countedBetween (reach .from) (now (counts .entry))) (now (schedule .entry)) number i) (now (out .entry)) (now (out .exit)) ⌝ }
 {
     if is_under(i, number, schedule, out) {
-        let at = i * 5;
-        let k = i * 13;
+        let at = i * LINE_WIDTH;
+        let k = i * SCHEDULE_WIDTH;
         let start = between(
             counts,
             reach.from,

@@ -6,9 +6,10 @@ use activities::Stretch;
 use activities::stretches::earlier;
 use activities::stretches::later;
 use baseline::lines::FINISH;
+use baseline::lines::LINE_WIDTH;
 use baseline::lines::START;
 use book::Section;
-ghost use Prim.Native.Nat.{ℕ, _+_, _*_, _/_, _≤_, _<_};
+ghost use Prim.Native.Nat.{ℕ, _+_, _*_, _/_, _<_};
 ghost use mathlib.Core.Path.{_≡_};
 ghost use mathlib.Core.Bool.{true};
 ghost use lib.ListN.{length};
@@ -62,21 +63,21 @@ fn reach_all(schedule: &[u64], out: &[u64]) -> Stretch
     };
     let early = reach(none, schedule, n, 13, EARLY_START);
     let planned = reach(early, schedule, n, 13, EARLY_FINISH);
-    let begun = reach(planned, out, n, 5, START);
-    reach(begun, out, n, 5, FINISH)
+    let begun = reach(planned, out, n, LINE_WIDTH, START);
+    reach(begun, out, n, LINE_WIDTH, FINISH)
 }
 
-// Over a stretch of at most 1,024 dates.
+// Over a stretch of at most 2,048 dates.
 fn count_short(book: &[u8], list: Section, stretch: Stretch, schedule: &[u64], out: &mut [u64])
     requires { ⌜ Every CalendarInRange (alikeIn layout.calendar (now book) list) ⌝ }
     requires { ⌜ Tables (now schedule) (now out) ⌝ }
     requires { ⌜ ((i : ℕ) → i < length (now out) / 5 → entryAt (now schedule) i 1 < list .count) ⌝ }
     requires { ⌜ ((i : ℕ) → i < length (now out) / 5 → hasLine (rowOf 5 (now out) i) ≡ true → Reaches stretch (now schedule) i (rowOf 5 (now out) i)) ⌝ }
-    requires { ⌜ Bounded stretch × (stretch .to < stretch .from + 1024) ⌝ }
+    requires { ⌜ Bounded stretch × (stretch .to < stretch .from + 2048) ⌝ }
     ensures { λ r. ⌜ now (out .exit) ≡ allRows (datedBy (alikeIn layout.calendar (now (book .entry)) list) (now (schedule .entry))) (now (out .entry)) ⌝ }
 {
-    let mut days = [0u8; 1024];
-    let mut counts = [0u64; 1025];
+    let mut days = [0u8; 2048];
+    let mut counts = [0u64; 2049];
     count_calendars(book, list, stretch, schedule, &mut days, &mut counts, out);
 }
 
@@ -103,7 +104,7 @@ pub fn count_days(book: &[u8], list: Section, schedule: &[u64], out: &mut [u64])
     ensures { λ r. ⌜ now (out .exit) ≡ allRows (datedBy (alikeIn layout.calendar (now (book .entry)) list) (now (schedule .entry))) (now (out .entry)) ⌝ }
 {
     let all = reach_all(schedule, out);
-    if all.to < all.from + 1024 {
+    if all.to < all.from + 2048 {
         count_short(book, list, all, schedule, out);
         return;
     }

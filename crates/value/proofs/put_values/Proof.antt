@@ -1,13 +1,13 @@
 -- `put_values` meets its contract: one row a turn.
 use Prim.Native.Nat.{_*_, _-_}
 use native.Mathlib.Omega.{arith}
-use mathlib.Core.Path.{_≡_, refl, ap, sym, _∙_}
+use mathlib.Core.Path.{_≡_, ap, sym, _∙_}
 use lib.ListN.{length}
 use lib.Seq.{sets}
-use Rattle.model.specs.Lists.{span}
+use Rattle.lists.specs.Lists.{span}
 use Rattle.model.specs.declared.Earned.{Earned}
 use Rattle.flat.proofs.Written.{Written}
-use Rattle.tree.proofs.Spans.{rows-none, rows-more, rows-end}
+use Rattle.flat.proofs.Spans.{rows-none, rows-more, rows-end}
 use Rattle.answers.specs.Rows.{earnedRow}
 use Rattle.value.specs.Figures.{width, earnedIn}
 use Rattle.value.proofs.Reading.{row-six, rows-read}

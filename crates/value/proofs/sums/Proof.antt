@@ -1,6 +1,6 @@
 -- `sums` meets its contract: each figure of the leaves added up.
 use native.Mathlib.Omega.{arith}
-use mathlib.Core.Path.{_≡_, ap, _∙_}
+use mathlib.Core.Path.{ap, _∙_}
 use mathlib.Core.List.{List}
 use lib.IntN.{ℤ}
 use mir.Syntax.{w64}

@@ -1,7 +1,6 @@
 -- `fill_variances` meets its contract: without a line zeros, else from the lines.
 use borrow.Author.Needs.{needs}
-use native.Mathlib.Omega.{arith}
-use mathlib.Core.Path.{sym, _∙_}
+use mathlib.Core.Path.{_∙_}
 use Rattle.baseline.proofs.Listing.{lines-are}
 use Rattle.variances.proofs.Varying.{rows-blank}
 use Rattle.variances.proofs.fill_variances.Statement.{statement}

@@ -1,10 +1,9 @@
 -- `settle_costs` meets its contract: the costs, then the rows.
 use borrow.Author.Needs.{needs}
 use native.Mathlib.Omega.{arith}
-use mathlib.Core.Path.{refl, sym, _∙_}
+use mathlib.Core.Path.{refl}
 use Rattle.format.specs.Verdict.{content}
 use Rattle.format.proofs.Theorems.{content-in-range}
-use Rattle.book.proofs.Plan.{activities-count}
 use Rattle.activities.proofs.Scheduling.{schedule-long}
 use Rattle.variances.proofs.Varying.{days-tables, days-count, days-timed, rows-are}
 use Rattle.variances.proofs.settle_costs.Statement.{statement}

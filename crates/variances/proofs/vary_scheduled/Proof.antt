@@ -1,7 +1,5 @@
 -- `vary_scheduled` meets its contract: the schedule, the working days, then minutes and costs.
 use borrow.Author.Needs.{needs}
-use native.Mathlib.Omega.{arith}
-use mathlib.Core.Path.{refl, _∙_}
 use Rattle.format.specs.Verdict.{content}
 use Rattle.format.proofs.Theorems.{content-in-range}
 use Rattle.variances.proofs.Varying.{lines-tables, lines-dated, calendars-ranged, lines-named, days-are}

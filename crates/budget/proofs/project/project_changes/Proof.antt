@@ -13,7 +13,7 @@ use Rattle.format.specs.Format.{budgetChange}
 use Rattle.format.specs.Verdict.{content}
 use Rattle.model.specs.Budgets.{isChange, changes}
 use Rattle.budget.specs.Project.{addedTo}
-use Rattle.budget.proofs.Sought.{saturated-kept}
+use Rattle.model.proofs.Figures.{saturated-kept}
 use Rattle.ledger.proofs.Reading.{Reading, reading-none, reading-more, reading-next, reading-end, Folded, folded-none, folded-more, folded-end}
 use borrow.Author.Needs.{needs}
 use Rattle.budget.proofs.project.project_changes.Statement.{statement}

@@ -1,4 +1,4 @@
--- `measure_by` meets its contract: the schedule and the units, then the activity's share.
+-- `measure_by` meets its contract: the activity's row and the units, then its share.
 use Prim.Native.Nat.{_<_}
 use native.Mathlib.Omega.{arith}
 use mathlib.Core.Path.{_∙_}
@@ -6,34 +6,43 @@ use lib.ListN.{length}
 use mir.Syntax.{w64}
 use borrow.Author.Needs.{needs}
 use Rattle.integer.specs.Linear.{back}
+use Rattle.format.specs.InRange.{ActivityInRange}
 use Rattle.format.specs.Verdict.{content}
 use Rattle.format.proofs.Theorems.{content-in-range}
-use Rattle.book.proofs.Plan.{activities-count}
-use Rattle.activities.proofs.Scheduling.{schedule-minutes}
-use Rattle.earned.proofs.Shares.{share-is}
+use Rattle.book.proofs.Plan.{activities-count, activities-in-range}
+use Rattle.model.specs.Lookup.{noActivity, activityAt}
+use Rattle.activities.proofs.Scheduling.{row-long, row-working, row-remaining}
+use Rattle.earned.proofs.Shares.{share-row}
 use Rattle.progress.proofs.performance.measure_by.Statement.{statement}
 use Rattle.progress.proofs.performance.measure_by.Tie as tie
 
+inside : (s : tie.Start) → s .args .activity < length (content (s .args .book .now) .activities)
+inside s = omega (arith, s .pre .1 .0, activities-count (s .pre .0 .plan))
+
+in-range : (s : tie.Start) → let plan = s .args .opened .plan in ActivityInRange (plan .calendars .count) (plan .activities .count) (activityAt (content (s .args .book .now)) (s .args .activity))
+in-range s = activities-in-range (s .pre .0 .plan) (s .args .activity) noActivity (inside s)
+
 share-done-requires : tie.Need-share-done-requires
 share-done-requires c κs =
-    let schedule = c .before .before .before .before .before .before .before in
-    let s = schedule .before .before .before .before .before in
-    (omega (arith, schedule .schedule .given, s .pre .1 .0, s .pre .1 .1 .0), schedule-minutes (s .pre .0 .plan) (schedule .before .fill-schedule .ensures) (s .args .activity) (s .pre .1 .0))
+    let row = c .before .before .before .before .before .before in
+    let s = row .before .before in
+    let b = content (s .args .book .now) in
+    let a = activityAt b (s .args .activity) in
+    let e = row .row-at .ensures in
+    (omega (arith, row-long (b .dataDate) a e), (rw (row-working (b .dataDate) a e) (in-range s .workingMinutes), rw (row-remaining (b .dataDate) a e) (in-range s .remainingMinutes)))
 
 returns : tie.Need-returns
 returns c =
     let read = c .before .before in
     let filled = read .before .before .before in
-    let schedule = filled .before .before .before in
-    let s = schedule .before .before .before .before .before in
-    let p = s .pre .0 .plan in
+    let row = filled .before .before in
+    let s = row .before .before in
     let b = content (s .args .book .now) in
     let i = s .args .activity in
-    let inside : i < length (b .activities) = omega (arith, s .pre .1 .0, activities-count p) in
     let units = filled .fill-units .ensures in
     c .share-done .ensures
-    ∙ share-is b i (schedule .before .fill-schedule .ensures) (content-in-range (s .args .book .now) (p .accepted)) inside (s .args .opened .technique) (s .pre .0 .technique)
-    (back w64 _ (read .before .done .given) ∙ units .done i inside) (back w64 _ (read .all .given) ∙ units .total i inside)
+    ∙ share-row b i (row .row-at .ensures) (content-in-range (s .args .book .now) (s .pre .0 .plan .accepted)) (inside s) (s .args .opened .technique) (s .pre .0 .technique)
+    (back w64 _ (read .before .done .given) ∙ units .done i (inside s)) (back w64 _ (read .all .given) ∙ units .total i (inside s))
 
 pub measure-by-spec : {M : Type 1} → statement M
 measure-by-spec =
@@ -48,7 +57,7 @@ measure-by-spec =
     (λ c. search needs)
     (λ c. search needs)
     (λ c. search needs)
-    share-done-requires
     (λ c. search needs)
+    share-done-requires
     (λ c. search needs)
     returns)

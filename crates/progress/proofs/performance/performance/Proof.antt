@@ -1,4 +1,4 @@
--- `performance` meets its contract: the tables are as long as the book has activities.
+-- `performance` meets its contract: the table of units is as long as the book has activities.
 use Prim.Native.Nat.{_*_, _≤_}
 use native.Mathlib.Omega.{arith}
 use mathlib.Core.Path.{sym}
@@ -14,9 +14,9 @@ most s = activities-most (s .pre .0 .plan)
 
 measure-by-requires : tie.Need-measure-by-requires
 measure-by-requires c κs =
-    let s = c .before .before .before in
+    let s = c .before .before in
     let n = s .args .opened .plan .activities .count in
-    (s .pre .0, (s .pre .1, (length-take-le _ _ (omega (arith, most s)), length-take-le _ _ (omega (arith, most s)), nothing-taken (n * 2) 1000)))
+    (s .pre .0, (s .pre .1, (length-take-le _ _ (omega (arith, most s)), nothing-taken (n * 2) 1000)))
 
 pub performance-spec : {M : Type 1} → statement M
 performance-spec =
@@ -25,8 +25,5 @@ performance-spec =
     (λ c. omega (arith, most (c .before)))
     (λ c. omega (arith, most (c .before)))
     (λ c. sym (length-take-le _ _ (omega (arith, most (c .before .before)))))
-    (λ c. omega (arith, most (c .before .before)))
-    (λ c. omega (arith, most (c .before .before)))
-    (λ c. sym (length-take-le _ _ (omega (arith, most (c .before .before .before)))))
     measure-by-requires
     (λ c. search needs))

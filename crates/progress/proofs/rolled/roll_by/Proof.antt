@@ -1,5 +1,4 @@
 -- `roll_by` meets its contract: the parents, then each row along the walks.
-use native.Mathlib.Omega.{arith}
 use mathlib.Core.Path.{ap, _∙_}
 use borrow.Author.Needs.{needs}
 use Rattle.tree.specs.Figures.{parentsOf, rolledRows}

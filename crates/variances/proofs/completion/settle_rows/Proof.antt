@@ -1,9 +1,8 @@
 -- `settle_rows` meets its contract: one activity a turn.
 use borrow.Author.Needs.{needs}
-use Prim.Native.Nat.{_+_, _*_, _-_}
+use Prim.Native.Nat.{_-_}
 use native.Mathlib.Omega.{arith}
 use mathlib.Core.Path.{sym, _∙_}
-use lib.ListN.{getD}
 use Rattle.flat.proofs.Cells.{row-inside}
 use Rattle.variances.specs.Completion.{settled}
 use Rattle.variances.proofs.Changing.{Changing, changing-none, changing-room, changing-cell, changing-more, changing-end}

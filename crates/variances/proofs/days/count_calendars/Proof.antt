@@ -1,9 +1,8 @@
 -- `count_calendars` meets its contract: one calendar a turn.
 use borrow.Author.Needs.{needs}
-use Prim.Native.Nat.{ℕ, _-_}
+use Prim.Native.Nat.{_-_}
 use native.Mathlib.Omega.{arith}
-use mathlib.Core.Path.{_≡_, refl, sym, _∙_, subst}
-use mathlib.Core.List.{List}
+use mathlib.Core.Path.{_≡_, refl, _∙_, subst}
 use lib.ListN.{length, getD}
 use Rattle.format.specs.Codec.{alike}
 use Rattle.format.specs.Book.{Calendar}

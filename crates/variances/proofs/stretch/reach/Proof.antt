@@ -2,7 +2,7 @@
 use borrow.Author.Needs.{needs}
 use Prim.Native.Nat.{_-_}
 use native.Mathlib.Omega.{arith}
-use Rattle.flat.proofs.Cells.{row-inside, cell-inside}
+use Rattle.flat.proofs.Cells.{row-inside}
 use Rattle.variances.specs.Days.{Takes}
 use Rattle.variances.proofs.Reaching.{takes-none, takes-more, takes-end}
 use Rattle.variances.proofs.stretch.reach.Statement.{statement}

@@ -1,6 +1,6 @@
 -- `widen` meets its contract: by what is given.
 use borrow.Author.Needs.{needs}
-use mathlib.Core.Path.{_≡_, ap₂, _∙_}
+use mathlib.Core.Path.{ap₂, _∙_}
 use Prim.Native.Nat.{ℕ}
 use Rattle.activities.specs.declared.Stretch.{Stretch}
 use Rattle.variances.proofs.Reaching.{widened-none, widened-some}
