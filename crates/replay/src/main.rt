@@ -1,16 +1,15 @@
 // Replays vectors from standard input: each line names a function, its arguments and the numbers that it must give. Prints
 // each line that differs, with what the function gave unless it is a call that leaves rows, and a count.
-ghost use Prim.Native.Nat.{_≤_};
+ghost use Prim.Native.Nat.{_<_, _≤_};
 ghost use lib.ListN.{length};
 
-mod answer;
 mod books;
 mod calls;
-mod functions;
-mod text;
-mod vector;
 
-use crate::answer::Answer;
+use vectors::Outcome;
+use vectors::answer::Answer;
+use vectors::names;
+use vectors::text;
 
 const IN: i32 = 0;
 
@@ -39,78 +38,67 @@ fn print(s: &[u8]) {
     io::write_all(OUT, s);
 }
 
-// A line that differs, and what its function gave, where that is told.
+// What a function gave, where that is told.
+fn tell(values: [u64; 4], n: usize) {
+    if 0 < n {
+        print(b" gives");
+    }
+    for k in 0..4 {
+        if k < n {
+            print(b" ");
+            io::print_decimal(OUT, values[k]);
+        }
+    }
+}
+
+// A line that differs, and what its function gave.
 fn report(line: &[u8], a: Answer) {
     print(b"differs: ");
     print(line);
     if a.known {
         let values = a.values;
-        let n = a.count;
-        if 0 < n {
-            print(b" gives");
-        }
-        for k in 0..4 {
-            if k < n {
-                print(b" ");
-                io::print_decimal(OUT, values[k]);
-            }
-        }
+        tell(values, a.count);
     } else {
         print(b" names no function");
     }
     print(b"\n");
 }
 
+// Replays a line by the place of its first word: the verdict on a book, a call that leaves rows in lent memory, or a
+// function.
+fn outcome(line: &[u8], place: u64, end: usize) -> Outcome
+    requires { ⌜ end < length (now line) ⌝ }
+{
+    match place {
+        0 => books::replay(line, end + 1),
+        1 => calls::replay(line, end + 1),
+        _ => vectors::replay(line, end),
+    }
+}
+
 // The count with one line more.
-fn counted(line: &[u8], a: Answer, same: bool, tally: Tally) -> Tally {
-    if same {
+fn counted(line: &[u8], o: Outcome, tally: Tally) -> Tally {
+    if o.same {
         return Tally {
             lines: next(tally.lines),
             differ: tally.differ,
         };
     }
-    report(line, a);
+    report(line, o.answer);
     Tally {
         lines: next(tally.lines),
         differ: next(tally.differ),
     }
 }
 
-// Replays a line that asks for the verdict on a book.
-fn replay_book(line: &[u8], from: usize, tally: Tally) -> Tally {
-    let asked = books::ask(line, from);
-    let a = asked.answer;
-    let numbers = vector::numbers(line, asked.next);
-    let values = numbers.values;
-    let at = numbers.at;
-    let same = at == line.len() && answer::agrees(a, values, numbers.given, numbers.count);
-    counted(line, a, same, tally)
-}
-
-// Replays a line of a call that leaves rows in lent memory.
-fn replay_call(line: &[u8], from: usize, tally: Tally) -> Tally {
-    let same = calls::holds(line, from);
-    counted(line, answer::untold(), same, tally)
-}
-
 // Replays one line.
 fn replay(line: &[u8], tally: Tally) -> Tally {
     let end = text::find(line, 0, text::BLANK);
     if line.len() <= end {
-        return counted(line, answer::unknown(), false, tally);
+        return counted(line, vectors::unknown(), tally);
     }
-    if check::same(&line[..end], b"verdict") {
-        return replay_book(line, end + 1, tally);
-    }
-    if check::same(&line[..end], b"call") {
-        return replay_call(line, end + 1, tally);
-    }
-    let numbers = vector::numbers(line, end);
-    let values = numbers.values;
-    let a = functions::answer(&line[..end], values);
-    let at = numbers.at;
-    let same = at == line.len() && answer::agrees(a, values, numbers.given, numbers.count);
-    counted(line, a, same, tally)
+    let place = names::place(&line[..end], b"verdict call ");
+    counted(line, outcome(line, place, end), tally)
 }
 
 // Replays the whole lines among the first `full` bytes of a buffer.
