@@ -19,3 +19,4 @@ pub mod Example
 pub mod Cases
 pub mod Forecast
 pub mod BudgetCases
+pub mod Pinned
