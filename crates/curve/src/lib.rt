@@ -186,17 +186,16 @@ fn rows_by(
     rows_of(book, opened, between, &marks, budgets, listed, out)
 }
 
-// The points of the planned curve between two dates, both included.
-pub fn planned_curve_of(book: &[u8], opened: Opened, from: u64, to: u64, out: &mut [u64]) -> Reply
+// The rows between two dates, with tables for as many activities as a book may have.
+fn rows_among(book: &[u8], opened: Opened, between: Stretch, out: &mut [u64]) -> Reply
     requires { ⌜ IsOpened (now book) opened ⌝ }
-    ensures { λ r. ⌜ Puts (plannedCurveRows from to (content (now (book .entry)))) (now (out .entry)) r (now (out .exit)) ⌝ }
+    ensures { λ r. ⌜ Puts (map pointRow (plannedCurveBetween (content (now (book .entry))) (between .from) (between .to))) (now (out .entry)) r (now (out .exit)) ⌝ }
 {
     let mut schedule = [0u64; 6500];
     let mut costs = [0i64; 1500];
     let mut listed = [0u64; 1500];
     let mut budgets = [0i64; 500];
     let n = opened.plan.activities.count as usize;
-    let between = Stretch { from, to };
     rows_by(
         book,
         opened,
@@ -207,4 +206,15 @@ pub fn planned_curve_of(book: &[u8], opened: Opened, from: u64, to: u64, out: &m
         &mut budgets[..n],
         out,
     )
+}
+
+// The points of the planned curve between two dates, both included; none without activities.
+pub fn planned_curve_of(book: &[u8], opened: Opened, from: u64, to: u64, out: &mut [u64]) -> Reply
+    requires { ⌜ IsOpened (now book) opened ⌝ }
+    ensures { λ r. ⌜ Puts (plannedCurveRows from to (content (now (book .entry)))) (now (out .entry)) r (now (out .exit)) ⌝ }
+{
+    if opened.plan.activities.count == 0 {
+        return Reply::Accepted(0);
+    }
+    rows_among(book, opened, Stretch { from, to }, out)
 }

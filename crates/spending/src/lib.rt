@@ -90,11 +90,14 @@ fn scheduled_rows(
     rows_by(book, opened, grain, between, schedule, out)
 }
 
-// The rows between two dates.
+// The rows between two dates; none without activities.
 fn rows_of(book: &[u8], opened: Opened, grain: Grain, between: Stretch, out: &mut [u64]) -> Reply
     requires { ⌜ IsOpened (now book) opened ⌝ }
     ensures { λ r. ⌜ Puts (map pointRow (grained grain (spendingBetween (content (now (book .entry))) (between .from) (between .to)))) (now (out .entry)) r (now (out .exit)) ⌝ }
 {
+    if opened.plan.activities.count == 0 {
+        return Reply::Accepted(0);
+    }
     let mut schedule = [0u64; 6500];
     let n = opened.plan.activities.count as usize * SCHEDULE_WIDTH;
     scheduled_rows(book, opened, grain, between, &mut schedule[..n], out)
