@@ -1,16 +1,21 @@
 -- The client's third demand over lent memory: what is read there are the definitions' figures, so the sentences hold of it.
 use Prim.Native.Nat.{ℕ, _≤_, _<_}
 use mathlib.Core.Path.{_≡_, refl, ap, ap₂, _∙_}
+use mathlib.Core.Bool.{Bool, true, cond}
 use mathlib.Core.List.{List, [], _∷_, _++_, map, List·Memᴰ}
 use native.Mathlib.Omega.{arith}
 use lib.IntN.{ℤ, pos}
 use lib.ListN.{length, getD, length-map}
 use lib.Seq.{ext-getD}
+use borrow.Author.Tests.{le-leb}
 use mir.Syntax.{w64}
 use mir.Val.{SFits}
 use Rattle.money.specs.Words.{bits, ofBits}
+use Rattle.format.specs.declared.Pos.{Pos}
+use Rattle.format.specs.declared.Pos.the-variants.{At}
+use Rattle.format.specs.Book.{Book}
 use Rattle.format.specs.Bytes.{Bytes}
-use Rattle.format.specs.Verdict.{content}
+use Rattle.format.specs.Verdict.{verdict, content}
 use Rattle.format.specs.InRange.{InRange}
 use Rattle.format.proofs.Theorems.{content-in-range, verdict-accepts}
 use Rattle.rows.specs.Rows.{numbers}
@@ -18,7 +23,7 @@ use Rattle.lists.proofs.Spans.{made-length, made-at}
 use Rattle.model.specs.declared.Earned.{Earned}
 use Rattle.lists.specs.Lists.{span}
 use Rattle.model.specs.Amounts.{Dated, on}
-use Rattle.model.specs.Tree.{parents}
+use Rattle.model.specs.Tree.{parents, indices}
 use Rattle.model.specs.Planned.{plannedCurveBetween}
 use Rattle.model.specs.Earned.{earnedAt, earnedValue, projectEarned}
 use Rattle.model.specs.Demand.{NoOwnAncestor, SmallBudgets, PlannedValue}
@@ -27,10 +32,13 @@ use Rattle.model.proofs.EarnedValue.{earned-planned-fits, earned-budget-fits, p
 use Rattle.model.proofs.Curve.{curve-fits}
 use Rattle.model.proofs.Demand.{Reads, planned-value-read}
 use Rattle.model.proofs.Tree.{parents-count}
-use Rattle.answers.specs.Rows.{pointRow, earnedRow, earnedValueRows, projectEarnedRows, plannedCurveRows}
-use Rattle.answers.specs.Calls.{left, replyPlace}
+use Rattle.answers.specs.declared.Reply.the-variants.{Accepted, Refused}
+use Rattle.answers.specs.Rows.{Rows, pointRow, earnedRow, earnedValueRows, projectEarnedRows, plannedCurveRows}
+use Rattle.answers.specs.Calls.{Condition, isDate, checked, fitted, replyAt, replyPlace, reply, left}
+use Rattle.answers.proofs.Replies.{Met, met, none-asked}
+use Rattle.answers.proofs.Sized.{sized, one-sized}
 use Rattle.answers.proofs.Accepted.{accepted-book, accepted-count, accepted-lent, number-is, figure-is}
-use Rattle.engine.specs.Demand.{numberAt, pointIn, LentAt, IsAccepted, atDate, between, earnedReply, projectReply, curveReply, AllAccepted, lentReading, lentCurve}
+use Rattle.engine.specs.Demand.{numberAt, pointIn, LentAt, IsAccepted, atDate, between, earnedReply, projectReply, curveReply, AllAccepted, HasRoom, HasCurveRoom, lentReading, lentCurve}
 
 -- ---- the calls at a status date
 module _ (s : List ℕ) (at : LentAt) (k : ℕ) (l : k < 6) (f : Earned → ℤ) (put : (e : Earned) → getD (earnedRow e) k 0 ≡ bits (f e)) where
@@ -54,7 +62,7 @@ module _ (s : List ℕ) (at : LentAt) (k : ℕ) (l : k < 6) (f : Earned → ℤ)
       ap (λ (out : List ℕ). ofBits (numberAt 6 out 0 k)) (accepted-lent (atDate (at .date)) (projectEarnedRows (at .date)) s (at .project) (a .1))
       ∙ figure-is 6 earnedRow (λ e. refl) k l f put (row ∷ []) row _ 0 (omega arith) row refl fits
 
-reads : (s : List ℕ) → InRange (content s) → (at : LentAt) → IsAccepted (earnedReply s at) → IsAccepted (projectReply s at) → Reads (content s) (lentReading s at)
+pub reads : (s : List ℕ) → InRange (content s) → (at : LentAt) → IsAccepted (earnedReply s at) → IsAccepted (projectReply s at) → Reads (content s) (lentReading s at)
 unfolding earnedRow
 reads s ok at a b = record {
   planned = λ i h. earned-read s at 1 (omega arith) (λ e. e .planned) (λ e. refl) a i h (earned-planned-fits (content s) (at .date) i);
@@ -90,6 +98,60 @@ curve-read s to lent a =
     ap replyPlace (a .1) ∙ accepted-count (between 10957 to) (plannedCurveRows 10957 to) s lent (a .1) ∙ length-map points pointRow in
     rw (count, accepted-lent (between 10957 to) (plannedCurveRows 10957 to) s lent (a .1)) (points-back points _ (curve-fits (content s) 10957 to))
 
+-- ---- that the calls are accepted
+
+-- a call on an accepted book, whose conditions hold and whose rows fit
+accepted-call :
+    (conditions : List Condition) (rows : Book → Rows) (s : List ℕ) (lent : ℕ) {j : ℕ} → verdict s ≡ At j → Met conditions (content s) →
+    length (numbers (rows (content s))) ≤ lent → IsAccepted (reply conditions rows s lent)
+unfolding reply fitted
+accepted-call conditions rows s lent v m h =
+    let n = length (rows (content s)) in (
+      n,
+      ap (λ (p : Pos). replyAt p (checked conditions (content s) (fitted (rows (content s)) lent))) v
+          ∙ m .passes (fitted (rows (content s)) lent)
+          ∙ ap (λ (b : Bool). cond b (Accepted n) (Refused 10 0)) (le-leb _ lent h),
+    )
+
+module _ (s : List ℕ) {j : ℕ} (v : verdict s ≡ At j) where
+  dated : (date : ℕ) → isDate date ≡ true → Met (atDate date) (content s)
+  dated date d = met d none-asked
+
+  earned-accepted : (at : LentAt) → isDate (at .date) ≡ true → HasRoom s at → IsAccepted (earnedReply s at)
+  unfolding earnedValueRows earnedRow earnedValue
+  earned-accepted at d room =
+      let b = content s in
+      let rows = map (earnedAt b (at .date)) (indices (parents b)) in
+      let many : length rows ≡ length (b .activities) = made-length (earnedAt b (at .date)) (length (parents b)) ∙ parents-count b in
+      accepted-call (atDate (at .date)) (earnedValueRows (at .date)) s (length (at .earned)) v (dated (at .date) d)
+      (omega (arith, sized earnedRow 6 (λ e. refl) rows (length (b .activities)) many .long, room .forActivities))
+
+  project-accepted : (at : LentAt) → isDate (at .date) ≡ true → HasRoom s at → IsAccepted (projectReply s at)
+  unfolding projectEarnedRows earnedRow
+  project-accepted at d room =
+      accepted-call (atDate (at .date)) (projectEarnedRows (at .date)) s (length (at .project)) v (dated (at .date) d)
+      (omega (arith, one-sized (earnedRow (projectEarned (content s) (at .date))) 6 refl .long, room .forProject))
+
+  curve-accepted : (to : ℕ) (lent : List ℕ) → isDate to ≡ true → HasCurveRoom s to lent → IsAccepted (curveReply s to lent)
+  unfolding plannedCurveRows isDate
+  curve-accepted to lent d room =
+      let points = plannedCurveBetween (content s) 10957 to in
+      accepted-call (between 10957 to) (plannedCurveRows 10957 to) s (length lent) v (met refl (met d none-asked))
+      (omega (arith, sized pointRow 2 (λ x. refl) points (length points) refl .long, room))
+
+  -- all five, wherever the book is accepted, the dates are in range and what is lent is enough
+  pub all-accepted :
+      (D E : LentAt) (curve : List ℕ) → isDate (D .date) ≡ true → isDate (E .date) ≡ true → HasRoom s D → HasRoom s E → HasCurveRoom s (E .date) curve →
+      AllAccepted s D E curve
+  all-accepted D E curve d e roomD roomE roomCurve =
+      record {
+        earnedAtD = earned-accepted D d roomD;
+        earnedAtE = earned-accepted E e roomE;
+        projectAtD = project-accepted D d roomD;
+        projectAtE = project-accepted E e roomE;
+        curveToE = curve-accepted (E .date) curve e roomCurve;
+      }
+
 -- ---- the theorem
 
 -- after accepted calls on any bytes, where no activity is its own ancestor and the leaf budgets read at D, signs dropped, add to at most 2^63 − 1
@@ -103,3 +165,11 @@ planned-value-lent s bytes D E curve a tree small order =
     let ok = content-in-range s w in
     rw (curve-read s (E .date) curve (a .curveToE))
     (planned-value-read s w tree (lentReading s D) (lentReading s E) (reads s ok D (a .earnedAtD) (a .projectAtD)) (reads s ok E (a .earnedAtE) (a .projectAtE)) order small)
+
+-- for every accepted book, with dates in range and enough lent
+pub planned-value-accepted :
+    (s : List ℕ) → Bytes s → {j : ℕ} → verdict s ≡ At j → (D E : LentAt) (curve : List ℕ) →
+    isDate (D .date) ≡ true → isDate (E .date) ≡ true → HasRoom s D → HasRoom s E → HasCurveRoom s (E .date) curve →
+    NoOwnAncestor (content s) → SmallBudgets (content s) (lentReading s D) → D .date ≤ E .date →
+    PlannedValue (content s) (lentReading s D) (lentReading s E) (lentCurve s (E .date) curve)
+planned-value-accepted s bytes v D E curve d e roomD roomE roomCurve = planned-value-lent s bytes D E curve (all-accepted s v D E curve d e roomD roomE roomCurve)

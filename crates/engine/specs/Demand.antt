@@ -1,12 +1,14 @@
 -- The client's third demand over lent memory: what is read there after calls of `earned_value`, `project_earned` and `planned_curve`.
-use Prim.Native.Nat.{ℕ, _+_, _*_}
+use Prim.Native.Nat.{ℕ, _+_, _*_, _≤_}
 use mathlib.Core.Path.{_≡_}
 use mathlib.Core.List.{List, [], _∷_, map}
 use lib.IntN.{ℤ}
 use lib.ListN.{length, getD}
 use Rattle.money.specs.Words.{ofBits}
+use Rattle.format.specs.Verdict.{content}
 use Rattle.lists.specs.Lists.{span}
 use Rattle.model.specs.Amounts.{Dated, on}
+use Rattle.model.specs.Planned.{plannedCurveBetween}
 use Rattle.model.specs.Demand.{Reading}
 use Rattle.answers.specs.declared.Reply.{Reply}
 use Rattle.answers.specs.declared.Reply.the-variants.{Accepted}
@@ -67,6 +69,15 @@ module _ (s : List ℕ) where
     pub projectAtD : IsAccepted (projectReply D)
     pub projectAtE : IsAccepted (projectReply E)
     pub curveToE : IsAccepted (curveReply (E .date) curve)
+
+  -- what is lent is enough: six numbers for each activity, six for the project
+  pub record HasRoom (at : LentAt) : Type 0 where
+    pub forActivities : length (content s .activities) * 6 ≤ length (at .earned)
+    pub forProject : 6 ≤ length (at .project)
+
+  -- and two for each point of the curve up to a date
+  abbrev pub HasCurveRoom : ℕ → List ℕ → Type 0
+  HasCurveRoom to lent = length (plannedCurveBetween (content s) 10957 to) * 2 ≤ length lent
 
   -- ---- what is read in lent memory after them
 
