@@ -2,7 +2,11 @@
 
    Each call returns 0 and sets *at to its count of rows, or returns the number of its refusal, from 1 to 10, and sets *at to the
    place, in bytes from the book's first. Rows go to the front of the `out_len` numbers at `out`, signed numbers in two's complement; the rest
-   keeps its numbers, and a refused call leaves all of them as they are. Dates count days from 1 January 1970; an activity is its index. */
+   keeps its numbers, and a refused call leaves all of them as they are. Dates count days from 1 January 1970; an activity is its index.
+
+   Memory. `book` has `len` bytes, `out` has `out_len` numbers, and `at` one; where a length is 0 its pointer may be NULL, and nothing
+   is read or written through it. `out` and `at` must not overlap each other or the book. A call keeps nothing: it takes no memory but
+   stack, at most SURUKEVA_STACK bytes, and calls from several threads do not meet. */
 #ifndef SURUKEVA_H
 #define SURUKEVA_H
 
@@ -12,6 +16,75 @@
 #ifdef __cplusplus
 extern "C" {
 #endif
+
+#define SURUKEVA_VERSION_MAJOR 1
+#define SURUKEVA_VERSION_MINOR 0
+
+/* Stack that is enough for every call on every book. */
+#define SURUKEVA_STACK 2097152
+
+/* What a call returns. */
+enum surukeva_refusal {
+    SURUKEVA_ACCEPTED = 0,
+    SURUKEVA_BOOK_TOO_LONG = 1,      /* the book is over 60,000 bytes; at 0 */
+    SURUKEVA_ENDS_EARLY = 2,         /* it ends where a byte is still due; at its length */
+    SURUKEVA_NOT_SHORTEST = 3,       /* a number is not in its shortest form, or is too large; at the number */
+    SURUKEVA_OUT_OF_RANGE = 4,       /* a value or an index is out of range; at the field */
+    SURUKEVA_COUNT_OUT_OF_RANGE = 5, /* a count is; at the count */
+    SURUKEVA_OUT_OF_ORDER = 6,       /* dates do not rise, or a budget is named twice; at the field */
+    SURUKEVA_BYTES_LEFT = 7,         /* there are bytes after the last section; at the first of them */
+    SURUKEVA_UNKNOWN_ACTIVITY = 8,   /* the asked activity is not in the book; at 0 */
+    SURUKEVA_DATE_OUT_OF_RANGE = 9,  /* an asked date is outside the years 2000 to 2099; at 0 */
+    SURUKEVA_TOO_SHORT = 10          /* `out` is shorter than the rows need; at 0 */
+};
+
+/* The same in words, by number: const char *const text[] = SURUKEVA_REFUSAL_TEXTS; */
+#define SURUKEVA_REFUSAL_TEXTS \
+    { \
+        "accepted", \
+        "the book is over 60,000 bytes", \
+        "the book ends where a byte is still due", \
+        "a number is not in its shortest form, or is too large", \
+        "a value or an index is out of range", \
+        "a count is out of range", \
+        "dates do not rise, or a budget is named twice", \
+        "there are bytes after the last section", \
+        "the asked activity is not in the book", \
+        "an asked date is outside the years 2000 to 2099", \
+        "the lent numbers are fewer than the rows need" \
+    }
+
+/* The numbers of a row of each call, and the most rows that it has: WIDTH * MOST numbers are enough for every book. */
+#define SURUKEVA_COSTS_WIDTH 3
+#define SURUKEVA_COSTS_MOST 500
+#define SURUKEVA_PROJECT_COST_WIDTH 3
+#define SURUKEVA_PROJECT_COST_MOST 1
+#define SURUKEVA_ACTUAL_BY_KIND_WIDTH 6
+#define SURUKEVA_ACTUAL_BY_KIND_MOST 500
+#define SURUKEVA_SPENDING_WIDTH 2
+#define SURUKEVA_SPENDING_MOST 36525
+#define SURUKEVA_SPENDING_BY_MONTH_WIDTH 2
+#define SURUKEVA_SPENDING_BY_MONTH_MOST 1200
+#define SURUKEVA_EARNED_VALUE_WIDTH 6
+#define SURUKEVA_EARNED_VALUE_MOST 500
+#define SURUKEVA_PROJECT_EARNED_WIDTH 6
+#define SURUKEVA_PROJECT_EARNED_MOST 1
+#define SURUKEVA_PLANNED_CURVE_WIDTH 2
+#define SURUKEVA_PLANNED_CURVE_MOST 36525
+#define SURUKEVA_PERFORMANCE_WIDTH 1
+#define SURUKEVA_PERFORMANCE_MOST 1
+#define SURUKEVA_INDICES_WIDTH 9
+#define SURUKEVA_INDICES_MOST 1
+#define SURUKEVA_PROJECT_INDICES_WIDTH 9
+#define SURUKEVA_PROJECT_INDICES_MOST 1
+#define SURUKEVA_PERIOD_POINTS_WIDTH 7
+#define SURUKEVA_PERIOD_POINTS_MOST 240
+#define SURUKEVA_VARIANCES_WIDTH 5
+#define SURUKEVA_VARIANCES_MOST 500
+#define SURUKEVA_BUDGET_WIDTH 10
+#define SURUKEVA_BUDGET_MOST 501
+#define SURUKEVA_FUNDING_WIDTH 2
+#define SURUKEVA_FUNDING_MOST 1
 
 /* Whether a book is accepted: returns 0 and sets *at to 0, or returns the number of its refusal, from 1 to 7, and sets *at to the
    place. */
