@@ -29,7 +29,7 @@ abbrev pub two : Float
 two = fin false 1 (pos 1)
 
 -- ---- what an f64 holds: a significand below 2 ^ 53, in units of 2 ^ -1074 or larger ones
-held : (s : Bool) (m : ℕ) (e : ℤ) → T (fits binary64 (fin s m e)) → (m < 2 ^ 53) × (down e ≤ 2 ^ 1074)
+pub held : (s : Bool) (m : ℕ) (e : ℤ) → T (fits binary64 (fin s m e)) → (m < 2 ^ 53) × (down e ≤ 2 ^ 1074)
 unfolding fits
 held s zero (pos k) t = (lit< tt, lit≤ tt)
 held s zero (negsuc k) t = (lit< tt, le-trans (le-of-eq (sym (one-mul (2 ^ suc k)) ∙ eqb→eq (1 * 2 ^ suc k) 1 t)) (lit≤ tt))
@@ -40,7 +40,7 @@ held s (suc m) e t =
     let u : T (odd && short && fine) = and-l (odd && short && fine) (ltb (suc m * up e) (2 ^ 1024 * down e)) t in
     (ltb→lt (suc m) (2 ^ 53) (and-r odd short (and-l (odd && short) fine u)), leb→le (down e) (2 ^ 1074) (and-r (odd && short) fine u))
 
-exponent-le : (i j : ℕ) → 2 ^ i ≤ 2 ^ j → i < suc j
+pub exponent-le : (i j : ℕ) → 2 ^ i ≤ 2 ^ j → i < suc j
 exponent-le i j h = lt-of-not-le (λ (g : suc j ≤ i). not-le-of-lt (pow-lt g) h)
 
 in-units : (p k : ℕ) → p * 2 ^ (k + 1075) ≡ p * 2 ^ k * 2 ^ 1075

@@ -39,7 +39,7 @@ unfolding ofInt
 nearest-value (pos n) f = top-value false n 1 (lit< tt) (omega (arith, size-le (pos n) f))
 nearest-value (negsuc n) f = top-value true (suc n) 1 (lit< tt) (omega (arith, size-le (negsuc n) f))
 
-value-finite : (x : Float) (s : Bool) (a c : ℕ) → HasValue x s a c → T (finite x)
+pub value-finite : (x : Float) (s : Bool) (a c : ℕ) → HasValue x s a c → T (finite x)
 value-finite nan s a c v = v
 value-finite (inf t) s a c v = v
 value-finite (fin t m e) s a c v = tt

@@ -7,3 +7,4 @@ pub mod Bounds
 pub mod Words
 pub mod Laws
 pub mod IndexLaws
+pub mod Pinned

@@ -4,3 +4,4 @@ pub mod Laws
 pub mod Era
 pub mod MarchYear
 pub mod Counts
+pub mod Pinned

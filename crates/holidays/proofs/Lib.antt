@@ -3,3 +3,4 @@ pub mod Ranges
 pub mod Cases
 pub mod NearEaster
 pub mod Years
+pub mod Pinned

@@ -79,11 +79,18 @@ pub fn easter(year: i32) -> dates::Day
     dates::from_ymd(year, q / 31, q % 31 + 1)
 }
 
-// A day's distance from Easter Sunday is that of Carnival Monday or Tuesday, Good Friday or Corpus Christi.
+// A day's distance from Easter Sunday is that of a movable holiday.
 fn is_movable(distance: i32) -> bool
     ensures { λ r. ⌜ r ≡ isMovable distance ⌝ }
 {
-    distance == -48 || (distance == -47 || (distance == -2 || distance == 60))
+    let mut i: usize = 0;
+    while i < 4 {
+        if MOVABLE[i] == distance {
+            return true;
+        }
+        i += 1;
+    }
+    false
 }
 
 fn is_by_easter(year: i32, days: i32) -> bool

@@ -1,3 +1,4 @@
 pub mod Bits
 pub mod Signs
 pub mod Spread
+pub mod Pinned

@@ -98,10 +98,10 @@ sub-q : tie.Need-sub-q
 sub-q c = search needs
 
 add-q-2 : tie.Need-add-q-2
-add-q-2 c = record { fits = small _ _ _ }
+add-q-2 c = record { fits = small _ _ _ _ (lit< tt) }
   where
-    small : (x y z : ℕ) → x % 30 + y % 7 - z + 114 < 2 ^ 32
-    small x y z = omega arith
+    small : (x y z k : ℕ) → k < 1000 → x % 30 + y % 7 - z + k < 2 ^ 32
+    small x y z k h = omega (arith, h)
 
 add-from-ymd : tie.Need-add-from-ymd
 add-from-ymd c = search needs
