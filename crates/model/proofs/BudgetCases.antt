@@ -39,6 +39,9 @@ forecasts =
     ∷ (row (pos 1000) (pos 200) (negsuc 99) (pos 100) (pos 7), Cpi, pos 1100)
     ∷ (row (pos 1000) (pos 200) (negsuc 99) (pos 100) (pos 7), Planned, pos 1100)
     ∷ (row (pos 1000) (pos 200) (negsuc 99) (pos 100) (pos 7), Remaining, pos 7)
+    -- at half the cost, and at a quarter of the pace
+    ∷ (row (pos 1000) (pos 400) (pos 100) (pos 50) (pos 7), Cpi, pos 450)
+    ∷ (row (pos 1000) (pos 400) (pos 100) (pos 50) (pos 7), CpiSpi, pos 1800)
     -- by the rounded product of two rounded quotients: 12.5 exactly, 12 as rounded
     ∷ (row (pos 4) (pos 5) (pos 2) (pos 5) (pos 0), CpiSpi, pos 12)
     -- an index that is absent
@@ -119,14 +122,14 @@ pub own-parent : (depthOf circle 0 ≡ 2) × (distributedOf circle (some 0) ≡ 
 unfolding depthOf distributedOf lineAccounts hasLine currentOf budgetFor changes names stepsMade walk steps parents isLeaf any span keep saturated
 own-parent = (refl, refl, refl)
 
--- a change that was not approved gives a leaf a line, and no money
+-- a change that was not approved gives a leaf a line, and no money; a budget gives one too
 abbrev refused : Book
 refused =
-    money (under none ∷ under none ∷ []) []
+    money (under none ∷ under none ∷ under none ∷ []) (record { activity = some 2; original = pos 5; plan = [] } ∷ [])
     (record { activity = some 0; amount = pos 9; status = NotApproved } ∷ record { activity = some 0; amount = pos 4; status = Pending } ∷ []) (pos 3 ∷ []) [] []
 
 pub refused-change :
-    (lineAccounts refused ≡ 0 ∷ [])
+    (lineAccounts refused ≡ 0 ∷ 2 ∷ [])
     × (currentOf refused (some 0) ≡ pos 0)
     × (proposedOf refused (some 0) ≡ pos 4)
     × (funded refused ≡ pos 3)
@@ -152,9 +155,14 @@ alike = money (under none ∷ []) [] [] [] (20000 ∷ 20000 ∷ []) (stored 0 (p
 abbrev between : Book
 between = money (under none ∷ []) [] [] [] (19990 ∷ 20000 ∷ 20010 ∷ []) (stored 0 (pos 5) ∷ stored 2 (pos 1) ∷ [])
 
+-- a parent's record does not count
+abbrev ofParent : Book
+ofParent = money (under none ∷ under (some 0) ∷ []) [] [] [] (20000 ∷ []) (stored 0 (pos 5) ∷ [])
+
 pub period-cases :
     (map (toDate alike earnedIn) (0 ∷ 1 ∷ []) ≡ some (pos 12) ∷ some (pos 12) ∷ [])
     × (map (toDate between earnedIn) (0 ∷ 1 ∷ 2 ∷ []) ≡ some (pos 5) ∷ none ∷ some (pos 6) ∷ [])
     × (map (toDate between actualIn) (0 ∷ 1 ∷ 2 ∷ []) ≡ some (pos 1) ∷ none ∷ some (pos 2) ∷ [])
+    × (toDate ofParent earnedIn 0 ≡ none)
 unfolding toDate isStored recordsToDate actualIn parents isLeaf any keep saturated
-period-cases = (refl, refl, refl)
+period-cases = (refl, refl, refl, refl)

@@ -1,7 +1,7 @@
 -- Small cases at the edges of the definitions, by computation.
 use mathlib.Core.Path.{_≡_, refl}
 use mathlib.Core.Bool.{Bool, true, false}
-use mathlib.Core.List.{List, [], _∷_, map, flatMap, zipWith}
+use mathlib.Core.List.{List, [], _∷_, _++_, map, flatMap, zipWith}
 use mathlib.Core.Option.{Option, none, some, orElse}
 use Prim.Native.Nat.{ℕ}
 use native.Mathlib.Omega.{arith}
@@ -15,7 +15,7 @@ use Rattle.money.specs.declared.costs.Cost.{Cost}
 use Rattle.money.specs.Scale.{inRange, scaledBy}
 use Rattle.money.specs.Shares.{shareOf, sharesFrom}
 use Rattle.floats.specs.Rounding.{rounded, wholeOf}
-use Rattle.floats.specs.Figures.{earnedOf}
+use Rattle.floats.specs.Figures.{nought, one as all, earnedOf}
 use Rattle.format.specs.declared.Status.{Status}
 use Rattle.format.specs.declared.Status.the-variants.{NotStarted, InProgress, Completed}
 use Rattle.format.specs.declared.EvTechnique.{EvTechnique}
@@ -23,8 +23,9 @@ use Rattle.format.specs.declared.EvTechnique.the-variants.{Physical, Duration, 
 use Rattle.format.specs.declared.EtcTechnique.the-variants as etc
 use Rattle.format.specs.declared.ResourceKind.{ResourceKind}
 use Rattle.format.specs.declared.ResourceKind.the-variants.{Labor, Nonlabor}
-use Rattle.format.specs.declared.Accrual.the-variants.{Uniform}
+use Rattle.format.specs.declared.Accrual.the-variants.{Start, End, Uniform}
 use Rattle.format.specs.declared.Region.the-variants.{None}
+use Rattle.dates.specs.declared.WeekdayOf.the-variants.{Nothing}
 use Rattle.format.specs.Enumeration.{resourceKindNumber}
 use Rattle.format.specs.Book.{Exception, Calendar, Activity, Resource, Assignment, Expense, BaselineLine, Book}
 use Rattle.lists.specs.Lists.{any, span, keep}
@@ -36,7 +37,7 @@ use Rattle.model.specs.Amounts.{on, spreadOver, saturatedSum, isCharged,
 use Rattle.model.specs.Tree.{Parents, parents, indices, isLeaf, leaves, steps, walk, stepsMade, walkUp, brought, rollUp}
 use Rattle.model.specs.Costs.{priceAmong, priceOn, priced, accrued, assignmentAmounts, expenseAmounts, assignmentsOf, expensesOf, byDay, ownCost, costOf, costs, projectCost, ofKind, kindCost, kindUnits, expenseCost, actualByKind, budgetByDay, spendingBetween}
 use Rattle.model.specs.Planned.{firstLine}
-use Rattle.model.specs.Earned.{unitsDone, unitsInAll, performanceBy}
+use Rattle.model.specs.Earned.{unitsDone, unitsInAll, performance}
 use Rattle.model.proofs.Calendar.{weekday-is}
 use Rattle.model.proofs.Days.{day-list-one}
 
@@ -96,11 +97,20 @@ calendars =
     -- an exception comes before all else
     ∷ (dates 1 [] (19723 ∷ []) (idle 19723), 19723, false)
     ∷ (dates 1 (19728 ∷ []) [] (working 19728), 19728, true)
+    -- a holiday, an extra day or an exception is of its own date alone
+    ∷ (dates 1 (19722 ∷ 19724 ∷ []) [] [], 19723, true)
+    ∷ (dates 1 [] (19727 ∷ 19729 ∷ []) [], 19728, false)
+    ∷ (dates 1 [] [] (idle 19722 ++ idle 19724), 19723, true)
     ∷ []
 
 pub calendar-cases : map (λ (c : Calendar × ℕ × Bool). isWorking (c .0) (c .1)) calendars ≡ map (λ (c : Calendar × ℕ × Bool). c .2) calendars
 unfolding isWorking exceptionOn usuallyWorks isRegionHoliday worksOn any
 calendar-cases = rw (weekday-is 19723 (omega arith), weekday-is 19728 (omega arith))
+
+-- a day without a weekday does not work
+pub no-weekday : worksOn 127 Nothing ≡ false
+unfolding worksOn
+no-weekday = refl
 
 -- ---- prices
 
@@ -108,6 +118,22 @@ calendar-cases = rw (weekday-is 19723 (omega arith), weekday-is 19728 (omega ari
 pub priced-by-day : priced (pos 2) (20000 ∷ 20001 ∷ []) (λ day. pos 50) ≡ on 20000 (pos 0) ∷ on 20001 (pos 0) ∷ []
 unfolding priced spreadOver shareOf sharesFrom zipWith scaledBy inRange
 priced-by-day = refl
+
+-- each share at the price of its own day
+pub own-price : priced (pos 200) (20000 ∷ 20001 ∷ []) pos ≡ on 20000 (pos 20000) ∷ on 20001 (pos 20001) ∷ []
+unfolding priced spreadOver shareOf sharesFrom zipWith scaledBy inRange
+own-price = refl
+
+-- ---- accruals: all on the first day, all on the last, or spread; without days nothing
+
+pub accruals : map (accrued (pos 7) (20000 ∷ 20001 ∷ 20002 ∷ [])) (Start ∷ End ∷ Uniform ∷ [])
+    ≡ (on 20000 (pos 7) ∷ []) ∷ (on 20002 (pos 7) ∷ []) ∷ (on 20000 (pos 3) ∷ on 20001 (pos 2) ∷ on 20002 (pos 2) ∷ []) ∷ []
+unfolding accrued spreadOver shareOf sharesFrom zipWith
+accruals = refl
+
+pub no-days : map (accrued (pos 7) []) (Start ∷ End ∷ Uniform ∷ []) ≡ [] ∷ [] ∷ [] ∷ []
+unfolding accrued spreadOver sharesFrom zipWith
+no-days = refl
 
 -- ---- the baseline: of two lines of an activity the first counts
 
@@ -135,11 +161,11 @@ activity parent status start finish actualStart actualFinish =
       percent = none;
     }
 
-abbrev book : Calendar → Option ℕ → List Activity → List Resource → List Assignment → List Expense → Book
-book calendar dataDate activities resources assignments expenses =
+abbrev bookBy : EvTechnique → Calendar → Option ℕ → List Activity → List Resource → List Assignment → List Expense → Book
+bookBy technique calendar dataDate activities resources assignments expenses =
     record {
       dataDate = dataDate;
-      technique = Physical;
+      technique = technique;
       forecast = etc.Remaining;
       calendars = calendar ∷ [];
       activities = activities;
@@ -153,6 +179,9 @@ book calendar dataDate activities resources assignments expenses =
       periods = [];
       records = [];
     }
+
+abbrev book : Calendar → Option ℕ → List Activity → List Resource → List Assignment → List Expense → Book
+book = bookBy Physical
 
 abbrev at100 : ResourceKind → Resource
 at100 kind = record { kind = kind; prices = record { from = none; perUnit = pos 100 } ∷ [] }
@@ -183,11 +212,24 @@ module _ (calendar : Calendar) where
       × (days (some 10957) (activity none InProgress 20000 20000 (some 10957) none) ≡ (20000 ∷ []) ∷ (10957 ∷ []) ∷ (20000 ∷ []) ∷ [])
       -- an early finish before the early start: its planned day is the one, its remaining day the other
       × (days (some 20010) (activity none InProgress 20005 20001 none none) ≡ (20005 ∷ []) ∷ [] ∷ (20001 ∷ []) ∷ [])
+      -- an actual start alone, and one after the actual finish, whatever the data date
+      × (days none (activity none InProgress 20000 20000 (some 20003) none) ≡ (20000 ∷ []) ∷ (20003 ∷ []) ∷ (20000 ∷ []) ∷ [])
+      × (days (some 20010) (activity none Completed 20000 20000 (some 20004) (some 20003)) ≡ (20000 ∷ []) ∷ (20004 ∷ []) ∷ [] ∷ [])
   unfolding daysOf plannedDays actualDays daysSince remainingDays daysLeft remainingFrom calendarOf orElse
-  edge-days = (rw (one 20000, one 20003), rw (one 20000), rw (one 20000, before), rw (turned, one 20001))
+  edge-days = (
+    rw (one 20000, one 20003),
+    rw (one 20000),
+    rw (one 20000, before),
+    rw (turned, one 20001),
+    rw (one 20000, one 20003),
+    rw (one 20000, after),
+  )
     where
       before : dayList calendar 10957 10956 ≡ 10957 ∷ []
       before = day-list-one calendar 10957 10956 (omega arith)
+
+      after : dayList calendar 20004 20003 ≡ 20004 ∷ []
+      after = day-list-one calendar 20004 20003 (omega arith)
 
       turned : dayList calendar 20005 20001 ≡ 20005 ∷ []
       turned = day-list-one calendar 20005 20001 (omega arith)
@@ -200,7 +242,7 @@ module _ (calendar : Calendar) where
   unfolding
       spendingBetween budgetByDay byDay assignmentsOf expensesOf assignmentAmounts expenseAmounts accrued priced priceOn priceAmong spreadOver
       daysOf plannedDays calendarOf pointsBetween datesBetween pointOn isCharged saturatedSum parents any span keep flatMap zipWith shareOf sharesFrom
-      scaledBy inRange saturated
+      scaledBy inRange saturated leaves isLeaf
   spending-order = rw (one 20000)
 
   -- a parent's own expense is in its cost and in the spending, and not in the project's cost
@@ -249,12 +291,12 @@ module _ (calendar : Calendar) where
   -- ---- earned value of a budget of 1,000: a technique, a status, what is earned
 
   -- a quarter done as judged, a third of its minutes worked, no units
-  abbrev underWay : Activity
-  underWay =
+  abbrev quarterDone : Status → Activity
+  quarterDone status =
       record {
         parent = none;
         calendar = none;
-        status = InProgress;
+        status = status;
         earlyStart = 20000;
         earlyFinish = 20000;
         actualStart = none;
@@ -265,13 +307,15 @@ module _ (calendar : Calendar) where
       }
 
   abbrev done : EvTechnique → Status → Float
-  done technique status = performanceBy (book calendar none (underWay ∷ []) [] [] []) 0 technique status
+  done technique status = performance (bookBy technique calendar none (quarterDone status ∷ []) [] [] []) 0
 
   abbrev techniques : List (EvTechnique × Status × ℤ)
   techniques =
       -- before the start only a percent that was judged counts
       (Physical, NotStarted, pos 250)
       ∷ (Duration, NotStarted, pos 0)
+      ∷ (Units, NotStarted, pos 0)
+      ∷ (ZeroHundred, NotStarted, pos 0)
       ∷ (FiftyFifty, NotStarted, pos 0)
       ∷ (Custom (pos 2000), NotStarted, pos 0)
       ∷ (Physical, InProgress, pos 250)
@@ -280,6 +324,7 @@ module _ (calendar : Calendar) where
       ∷ (Units, InProgress, pos 333)
       ∷ (ZeroHundred, InProgress, pos 0)
       ∷ (FiftyFifty, InProgress, pos 500)
+      ∷ (Custom (pos 2000), InProgress, pos 200)
       -- from nothing to all
       ∷ (Custom (negsuc 0), InProgress, pos 0)
       ∷ (Custom (pos 12000), InProgress, pos 1000)
@@ -287,5 +332,43 @@ module _ (calendar : Calendar) where
       ∷ []
 
   pub earned-cases : map (λ (t : EvTechnique × Status × ℤ). earnedOf (pos 1000) (done (t .0) (t .1))) techniques ≡ map (λ (t : EvTechnique × Status × ℤ). t .2) techniques
-  unfolding unitsDone unitsInAll assignmentsOf keep flatMap saturated rounded wholeOf ofInt mul div lt
+  unfolding performance unitsDone unitsInAll assignmentsOf keep flatMap saturated rounded wholeOf ofInt mul div lt
   earned-cases = refl
+
+  -- an activity under way without a percent, and units, by its minutes in all and those that remain
+  abbrev measured : EvTechnique → List Assignment → ℕ → ℕ → Float
+  measured technique units minutes left =
+      performance (bookBy technique calendar none
+      (record {
+        parent = none;
+        calendar = none;
+        status = InProgress;
+        earlyStart = 20000;
+        earlyFinish = 20000;
+        actualStart = none;
+        actualFinish = none;
+        workingMinutes = minutes;
+        remainingMinutes = left;
+        percent = none;
+      }
+      ∷ []) [] units []) 0
+
+  -- 3 units done, and one less than none to do
+  abbrev overdone : List Assignment
+  overdone = record { activity = 0; resource = none; planned = pos 0; actual = pos 3; remaining = negsuc 0 } ∷ []
+
+  -- no percent and no minutes are nothing; what is done is from nothing to all, also where more minutes remain than there are, or more units are done
+  pub measured-cases : map (earnedOf (pos 1000))
+      (measured Physical [] 600 300
+      ∷ measured Duration [] 0 0
+      ∷ measured Duration [] 600 900
+      ∷ measured Units overdone 600 300
+      ∷ [])
+      ≡ pos 0 ∷ pos 0 ∷ pos 0 ∷ pos 1000 ∷ []
+  unfolding performance unitsDone unitsInAll assignmentsOf keep flatMap saturated rounded wholeOf ofInt mul div lt
+  measured-cases = refl
+
+  -- each activity by its own status: completed, and unstarted without a percent
+  pub by-status : map (performance (book calendar none (activity none Completed 20000 20000 none none ∷ planned ∷ []) [] [] [])) (0 ∷ 1 ∷ []) ≡ all ∷ nought ∷ []
+  unfolding performance ofInt div lt
+  by-status = refl

@@ -30,7 +30,7 @@ abbrev pub days : List Dated → List ℕ
 days xs = map (λ (x : Dated). x .day) xs
 
 -- a running total has the days of its points
-running-days : (s : ℤ) (xs : List Dated) → days (running s xs) ≡ days xs
+pub running-days : (s : ℤ) (xs : List Dated) → days (running s xs) ≡ days xs
 unfolding running
 running-days s [] = refl
 running-days s (x ∷ xs) = ap (λ (l : List ℕ). x .day ∷ l) (running-days _ xs)

@@ -60,7 +60,7 @@ example-project = rw (planned-days, actual-days, remaining-days)
 pub example-spending : spendingBetween example 19723 19725 ≡ on 19723 (pos 334) ∷ on 19724 (pos 333) ∷ on 19725 (pos 333) ∷ []
 unfolding
     spendingBetween budgetByDay byDay assignmentsOf expensesOf expenseAmounts accrued spreadOver daysOf plannedDays calendarOf pointsBetween
-    datesBetween pointOn isCharged saturatedSum parents any span keep shareOf sharesFrom flatMap zipWith saturated
+    datesBetween pointOn isCharged saturatedSum parents any span keep shareOf sharesFrom flatMap zipWith saturated leaves isLeaf
 example-spending = rw (planned-days)
 
 -- ---- earned value at its data date, and the planned curve

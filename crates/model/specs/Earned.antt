@@ -2,7 +2,7 @@
 use Prim.Native.Nat.{ℕ}
 use mathlib.Core.Bool.{false, cond}
 use mathlib.Core.List.{List, [], _∷_, map, flatMap, foldl}
-use mathlib.Core.Option.{Option·getD}
+use mathlib.Core.Option.{Option, Option·getD}
 use lib.IntN.{ℤ, pos, negsuc, _+ℤ_, _-ℤ_}
 use lib.Ieee.{Float, fin}
 use mir.Syntax.{w64}
@@ -15,7 +15,7 @@ use Rattle.format.specs.declared.Status.{Status}
 use Rattle.format.specs.declared.Status.the-variants.{NotStarted, InProgress, Completed}
 use Rattle.format.specs.declared.EvTechnique.{EvTechnique}
 use Rattle.format.specs.declared.EvTechnique.the-variants.{Physical, Duration, Units, ZeroHundred, FiftyFifty, Custom}
-use Rattle.format.specs.Book.{Activity, Assignment, Book}
+use Rattle.format.specs.Book.{Assignment, Book}
 use Rattle.model.specs.declared.Earned.{Earned}
 use Rattle.model.specs.Lookup.{activityAt}
 use Rattle.model.specs.Tree.{parents, indices, isLeaf, leaves, rollUp}
@@ -31,12 +31,40 @@ abbrev pub valueOr : Index → Float → Float
 valueOr x y = cond (x .present) (x .value) y
 
 -- the percent complete that was judged; 0 without one
-abbrev pub byPercent : Activity → Float
-byPercent a = shareOf (Option·getD (a .percent) (pos 0))
+abbrev pub byPercent : Option ℤ → Float
+byPercent percent = shareOf (Option·getD percent (pos 0))
 
 -- the minutes worked, of all; 0 where there are none
-abbrev pub byDuration : Activity → Float
-byDuration a = valueOr (ratioOf (pos (a .workingMinutes) -ℤ pos (a .remainingMinutes)) (pos (a .workingMinutes))) nought
+abbrev pub byDuration : ℕ → ℕ → Float
+byDuration working remaining = valueOr (ratioOf (pos working -ℤ pos remaining) (pos working)) nought
+
+-- the units done, of all; by duration where there are none
+abbrev pub byUnits : ℤ → ℤ → ℕ → ℕ → Float
+byUnits done all working remaining = valueOr (ratioOf done all) (byDuration working remaining)
+
+-- what counts before the work is marked started: a percent that was judged, and nothing else
+abbrev pub unstarted : EvTechnique → Option ℤ → Float
+unstarted Physical percent = byPercent percent
+unstarted Duration percent = nought
+unstarted Units percent = nought
+unstarted ZeroHundred percent = nought
+unstarted FiftyFifty percent = nought
+unstarted (Custom share) percent = nought
+
+-- and while it is under way
+abbrev pub underWay : EvTechnique → Option ℤ → ℕ → ℕ → ℤ → ℤ → Float
+underWay Physical percent working remaining done all = byPercent percent
+underWay Duration percent working remaining done all = clamp01Of (byDuration working remaining)
+underWay Units percent working remaining done all = clamp01Of (byUnits done all working remaining)
+underWay ZeroHundred percent working remaining done all = nought
+underWay FiftyFifty percent working remaining done all = half
+underWay (Custom share) percent working remaining done all = shareOf share
+
+-- from the percent, the working and the remaining minutes, the units done and in all
+abbrev pub performanceBy : EvTechnique → Status → Option ℤ → ℕ → ℕ → ℤ → ℤ → Float
+performanceBy technique NotStarted percent working remaining done all = unstarted technique percent
+performanceBy technique InProgress percent working remaining done all = underWay technique percent working remaining done all
+performanceBy technique Completed percent working remaining done all = one
 
 -- of the activity's assignments: the units done, and those with the ones that remain
 unfoldable pub unitsDone : Book → ℕ → ℤ
@@ -45,36 +73,11 @@ unitsDone book i = saturated w64 (pos 0) (map (λ (x : Assignment). x .actual) (
 unfoldable pub unitsInAll : Book → ℕ → ℤ
 unitsInAll book i = saturated w64 (pos 0) (flatMap (λ (x : Assignment). x .actual ∷ x .remaining ∷ []) (assignmentsOf book i))
 
--- the units done, of all; by duration where there are none
-abbrev pub byUnits : Book → ℕ → Float
-byUnits book i = valueOr (ratioOf (unitsDone book i) (unitsInAll book i)) (byDuration (activityAt book i))
-
--- what counts before the work is marked started: a percent that was judged, and nothing else
-abbrev pub unstarted : Activity → EvTechnique → Float
-unstarted a Physical = byPercent a
-unstarted a Duration = nought
-unstarted a Units = nought
-unstarted a ZeroHundred = nought
-unstarted a FiftyFifty = nought
-unstarted a (Custom share) = nought
-
--- and while it is under way
-abbrev pub underWay : Book → ℕ → EvTechnique → Float
-underWay book i Physical = byPercent (activityAt book i)
-underWay book i Duration = clamp01Of (byDuration (activityAt book i))
-underWay book i Units = clamp01Of (byUnits book i)
-underWay book i ZeroHundred = nought
-underWay book i FiftyFifty = half
-underWay book i (Custom share) = shareOf share
-
-abbrev pub performanceBy : Book → ℕ → EvTechnique → Status → Float
-performanceBy book i technique NotStarted = unstarted (activityAt book i) technique
-performanceBy book i technique InProgress = underWay book i technique
-performanceBy book i technique Completed = one
-
 -- document 01's `performance`, under the book's technique
 unfoldable pub performance : Book → ℕ → Float
-performance book i = performanceBy book i (book .technique) (activityAt book i .status)
+performance book i =
+    let a = activityAt book i in
+    performanceBy (book .technique) (a .status) (a .percent) (a .workingMinutes) (a .remainingMinutes) (unitsDone book i) (unitsInAll book i)
 
 -- ---- the rows
 
