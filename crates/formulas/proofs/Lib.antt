@@ -1,0 +1,12 @@
+pub mod Distance
+pub mod Errors
+pub mod Rounding
+pub mod LastBit
+pub mod Nearest
+pub mod Within
+pub mod Whole
+pub mod Ratios
+pub mod Indices
+pub mod Estimates
+pub mod EarnedValue
+pub mod Cases
