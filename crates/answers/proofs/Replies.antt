@@ -1,59 +1,28 @@
 -- The table of answers, line by line.
 use Prim.Native.Nat.{ℕ, _≤_, _<_}
 use mathlib.Core.Path.{_≡_, refl, sym, ap, ap₂, _∙_}
-use mathlib.Core.Bool.{Bool, true, false, not}
+use native.Mathlib.Omega.{arith}
+use mathlib.Core.Bool.{Bool, true, false, cond}
 use mathlib.Core.List.{List, [], _∷_, _++_}
+use lib.Dec.{ltb}
 use lib.ListN.{length, drop}
-use borrow.Author.Tests.{le-leb, lt-leb, lt-ltb, le-ltb}
+use borrow.Author.Tests.{le-leb, lt-leb, lt-ltb, le-ltb, ltb-true}
 use Rattle.format.specs.Book.{Book}
 use Rattle.format.specs.Verdict.{content}
+use Rattle.book.proofs.Plan.{activities-count}
 use Rattle.rows.specs.Rows.{numbers}
 use Rattle.answers.specs.declared.Reply.{Reply}
 use Rattle.answers.specs.declared.Reply.the-variants.{Accepted, Refused}
-use Rattle.answers.specs.declared.open.Opened.{Opened}
 use Rattle.answers.specs.declared.open.Opening.{Opening}
 use Rattle.answers.specs.Rows.{Rows}
-use Rattle.answers.specs.Opened.{IsOpened, IsOpening}
-use Rattle.answers.specs.Calls.{Condition, isActivity, isDate, checked, fitted, lentAfter, Puts, replyNumber, replyPlace, reply, left, Answers, Returns}
+use Rattle.answers.specs.Opened.{IsAsked}
+use Rattle.answers.specs.Calls.{Condition, isActivity, activityAsked, checked, Met, fitted, lentAfter, Puts, replyNumber, replyPlace, reply, left, Answers, Returns}
+
+-- refused and not refused
+pub differ : {A : Type 0} → true ≡ false → A
+differ e = let z : _≡_ {A = ℕ} 0 1 = cc in absurd (omega arith)
 
 -- ---- what is asked
-
--- as code tests the opposite
-pub opposite : (b c : Bool) → not b ≡ c → b ≡ not c
-opposite true c e = ap not e
-opposite false c e = ap not e
-
-module _ (date : ℕ) {b : Bool} (e : b ≡ isDate date) where
-  pub in-range : not b ≡ false → isDate date ≡ true
-  in-range t = sym e ∙ opposite b false t
-
-  pub out-of-range : not b ≡ true → isDate date ≡ false
-  out-of-range t = sym e ∙ opposite b true t
-
--- a call with these conditions is not refused for them
-pub record Met (conditions : List Condition) (book : Book) : Type 0 where
-  pub passes : (r : Reply) → checked conditions book r ≡ r
-
--- or is refused for one of them, whatever it would answer
-pub record Unmet (conditions : List Condition) (book : Book) (number : ℕ) : Type 0 where
-  pub fails : (r : Reply) → checked conditions book r ≡ Refused number 0
-
-pub none-asked : {book : Book} → Met [] book
-unfolding checked
-none-asked = record { passes = λ r. refl }
-
-module _ {book : Book} {c : Condition} {cs : List Condition} where
-  pub unmet : c .holds book ≡ false → Unmet (c ∷ cs) book (c .number)
-  unfolding checked
-  unmet e = record { fails = λ r. rw e refl }
-
-  pub met : c .holds book ≡ true → Met cs book → Met (c ∷ cs) book
-  unfolding checked
-  met e m = record { passes = λ r. rw e (m .passes r) }
-
-  pub unmet-later : c .holds book ≡ true → {number : ℕ} → Unmet cs book number → Unmet (c ∷ cs) book number
-  unfolding checked
-  unmet-later e m = record { fails = λ r. rw e (m .fails r) }
 
 pub in-book : (book : Book) (i n : ℕ) → length (book .activities) ≡ n → i < n → isActivity i book ≡ true
 unfolding isActivity
@@ -62,6 +31,58 @@ in-book book i n e h = rw (e, lt-ltb i n h) refl
 pub not-in-book : (book : Book) (i n : ℕ) → length (book .activities) ≡ n → n ≤ i → isActivity i book ≡ false
 unfolding isActivity
 not-in-book book i n e h = rw (e, le-ltb i n h) refl
+
+pub none-asked : {book : Book} → Met [] book
+unfolding checked
+none-asked = record { passes = λ r. refl }
+
+pub met : {book : Book} {c : Condition} {cs : List Condition} → c .holds book ≡ true → Met cs book → Met (c ∷ cs) book
+unfolding checked
+met e m = record { passes = λ r. rw e (m .passes r) }
+
+-- one more condition behind the others is asked last
+checked-last : (cs : List Condition) (c : Condition) (book : Book) (r : Reply) → checked (cs ++ (c ∷ [])) book r ≡ checked cs book (checked (c ∷ []) book r)
+unfolding checked
+checked-last [] c book r = refl
+checked-last (d ∷ cs) c book r = ap (λ (x : Reply). cond (d .holds book) x (Refused (d .number) 0)) (checked-last cs c book r)
+
+module _ {cs : List Condition} {s : List ℕ} {o : Opening} (w : IsAsked cs s o) (c : Condition) where
+  -- what is refused stays so
+  pub still-refused : o .refused ≡ true → IsAsked (cs ++ (c ∷ [])) s o
+  still-refused e =
+      record {
+        refuses = λ t answer. rw (checked-last cs c (content s) answer) (w .refuses e (checked (c ∷ []) (content s) answer));
+        opens = w .opens;
+        meets = λ f. differ (sym e ∙ f);
+      }
+
+  module _ (e : o .refused ≡ false) where
+    pub asked-met : c .holds (content s) ≡ true → IsAsked (cs ++ (c ∷ [])) s o
+    unfolding checked
+    asked-met h =
+        record {
+          refuses = λ t. differ (sym t ∙ e);
+          opens = w .opens;
+          meets = λ f. record { passes = λ answer. rw (checked-last cs c (content s) answer, h) (w .meets e .passes answer) };
+        }
+
+    pub asked-unmet : c .holds (content s) ≡ false → IsAsked (cs ++ (c ∷ [])) s record { refused = true; number = c .number; place = 0; opened = o .opened }
+    unfolding checked
+    asked-unmet h =
+        record {
+          refuses = λ t answer. rw (w .opens e .accepted .1, checked-last cs c (content s) answer, h) (w .meets e .passes (Refused (c .number) 0));
+          opens = λ f. differ f;
+          meets = λ f. differ f;
+        }
+
+-- the first that is asked for is in the book
+pub asked-in-book : {i : ℕ} {cs : List Condition} {s : List ℕ} {o : Opening} → IsAsked (activityAsked i ∷ cs) s o → o .refused ≡ false → i < o .opened .plan .activities .count
+unfolding isActivity checked replyNumber
+asked-in-book {i} {cs} {s} w e = rw (← activities-count (w .opens e .plan)) (go (ltb i (length (content s .activities))) refl (w .meets e .passes (Accepted 0)))
+  where
+    go : (b : Bool) → ltb i (length (content s .activities)) ≡ b → cond b (checked cs (content s) (Accepted 0)) (Refused 8 0) ≡ Accepted 0 → i < length (content s .activities)
+    go true f m = ltb-true i (length (content s .activities)) f
+    go false f m = let z : _≡_ {A = ℕ} 8 0 = ap replyNumber m in absurd (omega arith)
 
 -- ---- the rows
 
@@ -89,19 +110,15 @@ module _ (conditions : List Condition) (rows : Book → Rows) (s out : List ℕ)
   unfolding left
   answered r e after l = record { answer = e; lent = l ∙ ap (λ (x : Reply). lentAfter x (rows (content s)) out) e }
 
-  pub book-refused : (o : Opening) → IsOpening s o → o .refused ≡ true → Answers conditions rows s out (Refused (o .number) (o .place)) out
-  unfolding reply lentAfter
-  book-refused o w e = answered (Refused (o .number) (o .place)) (rw (w .refuses e) refl) out refl
-
-  module _ {r : Opened} (w : IsOpened s r) where
-    pub call-refused : {number : ℕ} → Unmet conditions (content s) number → Answers conditions rows s out (Refused number 0) out
+  module _ {o : Opening} (w : IsAsked conditions s o) where
+    pub call-refused : o .refused ≡ true → Answers conditions rows s out (Refused (o .number) (o .place)) out
     unfolding reply lentAfter
-    call-refused {number} u = answered (Refused number 0) (rw (w .accepted .1) (sym (u .fails (fitted (rows (content s)) (length out))))) out refl
+    call-refused e = answered (Refused (o .number) (o .place)) (sym (w .refuses e (fitted (rows (content s)) (length out)))) out refl
 
-    pub call-answered : Met conditions (content s) → {a : Reply} {after : List ℕ} → Puts (rows (content s)) out a after → Answers conditions rows s out a after
+    pub call-answered : o .refused ≡ false → {a : Reply} {after : List ℕ} → Puts (rows (content s)) out a after → Answers conditions rows s out a after
     unfolding reply
-    call-answered m {a} {after} p =
-        answered a (rw (w .accepted .1) (p .answer ∙ sym (m .passes (fitted (rows (content s)) (length out))))) after (p .lent)
+    call-answered e {a} {after} p =
+        answered a (rw (w .opens e .accepted .1) (p .answer ∙ sym (w .meets e .passes (fitted (rows (content s)) (length out))))) after (p .lent)
 
   -- as C has it
   pub returned :

@@ -43,6 +43,10 @@ unfoldable pub checked : List Condition → Book → Reply → Reply
 checked [] book r = r
 checked (c ∷ cs) book r = cond (c .holds book) (checked cs book r) (Refused (c .number) 0)
 
+-- a book that meets them all is not refused for them
+pub record Met (conditions : List Condition) (book : Book) : Type 0 where
+  pub passes : (r : Reply) → checked conditions book r ≡ r
+
 -- the rows, with their count; 10 where the lent slice is too short for their numbers
 unfoldable pub fitted : Rows → ℕ → Reply
 fitted rows lent = cond (leb (length (numbers rows)) lent) (Accepted (length rows)) (Refused 10 0)

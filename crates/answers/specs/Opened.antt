@@ -8,6 +8,9 @@ use Rattle.format.specs.Verdict.{verdict, content}
 use Rattle.book.specs.Plan.{IsPlanOf, IsLedgerOf}
 use Rattle.answers.specs.declared.open.Opened.{Opened}
 use Rattle.answers.specs.declared.open.Opening.{Opening}
+use Rattle.answers.specs.declared.Reply.{Reply}
+use Rattle.answers.specs.declared.Reply.the-variants.{Refused}
+use Rattle.answers.specs.Calls.{Condition, checked, Met, replyAt}
 
 -- s is an accepted book that has these lists, this technique and this forecast
 pub record IsOpened (s : List ℕ) (r : Opened) : Type 0 where
@@ -17,7 +20,8 @@ pub record IsOpened (s : List ℕ) (r : Opened) : Type 0 where
   pub technique : content s .technique ≡ r .technique
   pub forecast : content s .forecast ≡ r .forecast
 
--- the refusal that the verdict is, or an accepted book opened
-pub record IsOpening (s : List ℕ) (r : Opening) : Type 0 where
-  pub refuses : r .refused ≡ true → verdict s ≡ pos.Refused (r .number) (r .place)
+-- s is refused, as a book or for one of these conditions, whatever would be answered; or it is an accepted book, opened, that meets them all
+pub record IsAsked (conditions : List Condition) (s : List ℕ) (r : Opening) : Type 0 where
+  pub refuses : r .refused ≡ true → (answer : Reply) → replyAt (verdict s) (checked conditions (content s) answer) ≡ Refused (r .number) (r .place)
   pub opens : r .refused ≡ false → IsOpened s (r .opened)
+  pub meets : r .refused ≡ false → Met conditions (content s)

@@ -1,6 +1,6 @@
 // What is answered to a call: document 01's table of refusals, and the book opened for it.
 ghost use mathlib.Core.Path.{_≡_};
-ghost use Rattle.answers.specs.Calls.{isDate};
+ghost use Rattle.answers.specs.Calls.{isDate, replyNumber, replyPlace};
 
 pub mod open;
 
@@ -25,4 +25,20 @@ pub fn is_date(day: u64) -> bool
         return false;
     }
     day <= 47481
+}
+
+// The number of an answer as C has it, and in `at` its count of rows or its place.
+pub fn give(answer: Reply, at: &mut u64) -> u64
+    ensures { λ r. ⌜ (r ≡ replyNumber answer) × (now (at .exit) ≡ replyPlace answer) ⌝ }
+{
+    match answer {
+        Reply::Accepted(rows) => {
+            *at = rows;
+            0
+        }
+        Reply::Refused(number, place) => {
+            *at = place as u64;
+            number
+        }
+    }
 }

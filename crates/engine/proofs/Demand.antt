@@ -34,8 +34,8 @@ use Rattle.model.proofs.Demand.{Reads, planned-value-read}
 use Rattle.model.proofs.Tree.{parents-count}
 use Rattle.answers.specs.declared.Reply.the-variants.{Accepted, Refused}
 use Rattle.answers.specs.Rows.{Rows, pointRow, earnedRow, earnedValueRows, projectEarnedRows, plannedCurveRows}
-use Rattle.answers.specs.Calls.{Condition, isDate, checked, fitted, replyAt, replyPlace, reply, left}
-use Rattle.answers.proofs.Replies.{Met, met, none-asked}
+use Rattle.answers.specs.Calls.{Condition, isDate, checked, Met, fitted, replyAt, replyPlace, reply, left}
+use Rattle.answers.proofs.Replies.{met, none-asked}
 use Rattle.answers.proofs.Sized.{sized, one-sized}
 use Rattle.answers.proofs.Accepted.{accepted-book, accepted-count, accepted-lent, number-is, figure-is}
 use Rattle.engine.specs.Demand.{numberAt, pointIn, LentAt, IsAccepted, atDate, between, earnedReply, projectReply, curveReply, AllAccepted, HasRoom, HasCurveRoom, lentReading, lentCurve}
@@ -101,7 +101,7 @@ curve-read s to lent a =
 -- ---- that the calls are accepted
 
 -- a call on an accepted book, whose conditions hold and whose rows fit
-accepted-call :
+pub accepted-call :
     (conditions : List Condition) (rows : Book → Rows) (s : List ℕ) (lent : ℕ) {j : ℕ} → verdict s ≡ At j → Met conditions (content s) →
     length (numbers (rows (content s))) ≤ lent → IsAccepted (reply conditions rows s lent)
 unfolding reply fitted

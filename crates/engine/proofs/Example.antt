@@ -1,14 +1,12 @@
 -- The client's third demand on document 01's example: what it asks for is met, so that it says something.
-use Prim.Native.Nat.{ℕ, zero, suc, _+_, _*_, _≤_, _<_}
+use Prim.Native.Nat.{ℕ, zero, suc, _<_}
 use mathlib.Core.Path.{_≡_, refl, sym, ap, _∙_, subst}
 use mathlib.Core.Bool.{true}
-use mathlib.Core.List.{List, [], _∷_, map}
-use mathlib.Core.Option.{Option, none, some, Option·none-ne-some, Option·some-injective}
+use mathlib.Core.List.{List, [], _∷_}
+use mathlib.Core.Option.{none, some, Option·none-ne-some, Option·some-injective}
 use native.Mathlib.Omega.{arith}
-use lib.IntN.{ℤ, pos}
+use lib.IntN.{pos}
 use lib.ListN.{length, getD, replicate, length-replicate}
-use mir.Syntax.{w64}
-use Rattle.integer.specs.Clamp.{most}
 use Rattle.integer.specs.Folds.{magnitudes}
 use Rattle.format.specs.declared.Pos.{Pos}
 use Rattle.format.specs.declared.Pos.the-variants.{At}
@@ -21,7 +19,6 @@ use Rattle.format.proofs.Theorems.{content-in-range, verdict-accepts}
 use Rattle.format.proofs.Example.{bytes, example, example-written, read-back}
 use Rattle.lists.specs.Lists.{any, span, keep}
 use Rattle.model.specs.declared.Earned.{Earned}
-use Rattle.model.specs.Amounts.{Dated}
 use Rattle.model.specs.Tree.{Parents, parents, parentOf, isLeaf, leaves, Ancestor, parent, above}
 use Rattle.model.specs.Planned.{plannedCurveBetween}
 use Rattle.model.specs.Earned.{noEarned, earnedAt, earnedValue}

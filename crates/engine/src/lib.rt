@@ -1,9 +1,9 @@
 // The public calls. Each takes the bytes of a book, what is asked, and lent numbers for its rows; it asks nothing of its caller.
-use answers::DATE_OUT_OF_RANGE;
 use answers::Reply;
-use answers::UNKNOWN_ACTIVITY;
-use answers::is_date;
+use answers::open::ask_activity;
+use answers::open::ask_date;
 use answers::open::open;
+use answers::open::open_for;
 use budget::budget_of;
 use budget::funding_of;
 use costs::calls::actual_by_kind_of;
@@ -60,15 +60,9 @@ pub fn actual_by_kind(book: &[u8], out: &mut [u64]) -> Reply
 pub fn spending(book: &[u8], from: u64, to: u64, out: &mut [u64]) -> Reply
     ensures { λ r. ⌜ Answers (dateAsked from ∷ dateAsked to ∷ []) (spendingRows from to) (now (book .entry)) (now (out .entry)) r (now (out .exit)) ⌝ }
 {
-    let opening = open(book);
+    let opening = ask_date(ask_date(open(book), from), to);
     if opening.refused {
         return Reply::Refused(opening.number, opening.place);
-    }
-    if !is_date(from) {
-        return Reply::Refused(DATE_OUT_OF_RANGE, 0);
-    }
-    if !is_date(to) {
-        return Reply::Refused(DATE_OUT_OF_RANGE, 0);
     }
     spending_of(book, opening.opened, from, to, out)
 }
@@ -88,12 +82,9 @@ pub fn spending_by_month(book: &[u8], out: &mut [u64]) -> Reply
 pub fn earned_value(book: &[u8], date: u64, out: &mut [u64]) -> Reply
     ensures { λ r. ⌜ Answers (dateAsked date ∷ []) (earnedValueRows date) (now (book .entry)) (now (out .entry)) r (now (out .exit)) ⌝ }
 {
-    let opening = open(book);
+    let opening = ask_date(open(book), date);
     if opening.refused {
         return Reply::Refused(opening.number, opening.place);
-    }
-    if !is_date(date) {
-        return Reply::Refused(DATE_OUT_OF_RANGE, 0);
     }
     earned_value_of(book, opening.opened, date, out)
 }
@@ -102,12 +93,9 @@ pub fn earned_value(book: &[u8], date: u64, out: &mut [u64]) -> Reply
 pub fn project_earned(book: &[u8], date: u64, out: &mut [u64]) -> Reply
     ensures { λ r. ⌜ Answers (dateAsked date ∷ []) (projectEarnedRows date) (now (book .entry)) (now (out .entry)) r (now (out .exit)) ⌝ }
 {
-    let opening = open(book);
+    let opening = ask_date(open(book), date);
     if opening.refused {
         return Reply::Refused(opening.number, opening.place);
-    }
-    if !is_date(date) {
-        return Reply::Refused(DATE_OUT_OF_RANGE, 0);
     }
     project_earned_of(book, opening.opened, date, out)
 }
@@ -116,15 +104,9 @@ pub fn project_earned(book: &[u8], date: u64, out: &mut [u64]) -> Reply
 pub fn planned_curve(book: &[u8], from: u64, to: u64, out: &mut [u64]) -> Reply
     ensures { λ r. ⌜ Answers (dateAsked from ∷ dateAsked to ∷ []) (plannedCurveRows from to) (now (book .entry)) (now (out .entry)) r (now (out .exit)) ⌝ }
 {
-    let opening = open(book);
+    let opening = ask_date(ask_date(open(book), from), to);
     if opening.refused {
         return Reply::Refused(opening.number, opening.place);
-    }
-    if !is_date(from) {
-        return Reply::Refused(DATE_OUT_OF_RANGE, 0);
-    }
-    if !is_date(to) {
-        return Reply::Refused(DATE_OUT_OF_RANGE, 0);
     }
     planned_curve_of(book, opening.opened, from, to, out)
 }
@@ -133,12 +115,9 @@ pub fn planned_curve(book: &[u8], from: u64, to: u64, out: &mut [u64]) -> Reply
 pub fn performance(book: &[u8], activity: u64, out: &mut [u64]) -> Reply
     ensures { λ r. ⌜ Answers (activityAsked activity ∷ []) (performanceRows activity) (now (book .entry)) (now (out .entry)) r (now (out .exit)) ⌝ }
 {
-    let opening = open(book);
+    let opening = ask_activity(open(book), activity);
     if opening.refused {
         return Reply::Refused(opening.number, opening.place);
-    }
-    if opening.opened.plan.activities.count <= activity {
-        return Reply::Refused(UNKNOWN_ACTIVITY, 0);
     }
     performance_of(book, opening.opened, activity, out)
 }
@@ -147,15 +126,9 @@ pub fn performance(book: &[u8], activity: u64, out: &mut [u64]) -> Reply
 pub fn indices(book: &[u8], activity: u64, date: u64, out: &mut [u64]) -> Reply
     ensures { λ r. ⌜ Answers (activityAsked activity ∷ dateAsked date ∷ []) (indicesRows activity date) (now (book .entry)) (now (out .entry)) r (now (out .exit)) ⌝ }
 {
-    let opening = open(book);
+    let opening = open_for(book, activity, date);
     if opening.refused {
         return Reply::Refused(opening.number, opening.place);
-    }
-    if opening.opened.plan.activities.count <= activity {
-        return Reply::Refused(UNKNOWN_ACTIVITY, 0);
-    }
-    if !is_date(date) {
-        return Reply::Refused(DATE_OUT_OF_RANGE, 0);
     }
     indices_of(book, opening.opened, activity, date, out)
 }
@@ -164,12 +137,9 @@ pub fn indices(book: &[u8], activity: u64, date: u64, out: &mut [u64]) -> Reply
 pub fn project_indices(book: &[u8], date: u64, out: &mut [u64]) -> Reply
     ensures { λ r. ⌜ Answers (dateAsked date ∷ []) (projectIndicesRows date) (now (book .entry)) (now (out .entry)) r (now (out .exit)) ⌝ }
 {
-    let opening = open(book);
+    let opening = ask_date(open(book), date);
     if opening.refused {
         return Reply::Refused(opening.number, opening.place);
-    }
-    if !is_date(date) {
-        return Reply::Refused(DATE_OUT_OF_RANGE, 0);
     }
     project_indices_of(book, opening.opened, date, out)
 }

@@ -3,8 +3,8 @@ ghost use mathlib.Core.List.{[], _∷_};
 ghost use mathlib.Core.Path.{_≡_};
 ghost use Rattle.format.specs.Verdict.{verdict, answerOf, answerNumber, answerPlace};
 ghost use Rattle.answers.specs.Rows.{costsRows, projectCostRows, actualByKindRows, spendingRows, spendingByMonthRows, earnedValueRows, projectEarnedRows, plannedCurveRows, performanceRows, indicesRows, projectIndicesRows, periodPointsRows, variancesRows, budgetRows, fundingRows};
-ghost use Rattle.answers.specs.Calls.{activityAsked, dateAsked, replyNumber, replyPlace, Returns};
-use answers::Reply;
+ghost use Rattle.answers.specs.Calls.{activityAsked, dateAsked, Returns};
+use answers::give;
 use format::Answer;
 
 // Whether the book is accepted: its number, and in `at` its place.
@@ -19,22 +19,6 @@ pub extern "C" fn surukeva_verdict(book: &[u8], at: &mut u64) -> u64
             0
         }
         Answer::Refused(number, place) => {
-            *at = place as u64;
-            number
-        }
-    }
-}
-
-// The number of an answer, and in `at` its count of rows or its place.
-fn give(answer: Reply, at: &mut u64) -> u64
-    ensures { λ r. ⌜ (r ≡ replyNumber answer) × (now (at .exit) ≡ replyPlace answer) ⌝ }
-{
-    match answer {
-        Reply::Accepted(rows) => {
-            *at = rows;
-            0
-        }
-        Reply::Refused(number, place) => {
             *at = place as u64;
             number
         }

@@ -1,10 +1,9 @@
 -- `open` meets its contract: what the layout says of an accepted book.
-use Prim.Native.Nat.{ℕ}
 use borrow.Author.Needs.{needs}
-use mathlib.Core.Path.{_≡_, ap, sym, _∙_}
-use mathlib.Core.Bool.{true, false}
+use mathlib.Core.Path.{refl, ap, sym, _∙_}
 use native.Mathlib.Omega.{arith}
 use Rattle.book.proofs.Plan.{plan-of, ledger-of, technique-of, forecast-of}
+use Rattle.answers.proofs.Replies.{differ, none-asked}
 use Rattle.answers.proofs.open.open.Statement.{statement}
 use Rattle.answers.proofs.open.open.Tie as tie
 
@@ -17,10 +16,6 @@ enum-told c = search needs
 enum-known-end : tie.Need-enum-known-end
 enum-known-end c = search needs
 
--- a book that is refused is not accepted
-differ : {A : Type 0} → true ≡ false → A
-differ e = let z : _≡_ {A = ℕ} 0 1 = cc in absurd (omega arith)
-
 returns : tie.Need-returns
 returns c =
     let known = c .before .before .before .before .before .before in
@@ -30,6 +25,7 @@ returns c =
     let accepted = sym (ap (λ v. v .1) (read .ensures .0)) ∙ c .enum-told .given .1 in
     record {
       refuses = λ e. differ (sym e);
+      meets = λ e. none-asked;
       opens = λ e.
           record {
             accepted = (_, accepted);
@@ -44,8 +40,9 @@ returns-2 : tie.Need-returns-2
 returns-2 c =
     let read = c .before .before .before .before .before .before .read-layout in
     record {
-      refuses = λ e. sym (ap (λ v. v .1) (read .ensures .0)) ∙ c .before .end .given .1;
+      refuses = λ e answer. rw (sym (ap (λ v. v .1) (read .ensures .0)) ∙ c .before .end .given .1) refl;
       opens = λ e. differ e;
+      meets = λ e. differ e;
     }
 
 pub open-spec : {M : Type 1} → statement M

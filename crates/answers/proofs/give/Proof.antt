@@ -1,9 +1,9 @@
 -- `give` meets its contract: the number and the place of the answer.
 use borrow.Author.Needs.{needs}
 use mathlib.Core.Path.{refl}
 use Rattle.answers.specs.Calls.{replyNumber, replyPlace}
-use Rattle.surukeva.proofs.give.Statement.{statement}
-use Rattle.surukeva.proofs.give.Tie as tie
+use Rattle.answers.proofs.give.Statement.{statement}
+use Rattle.answers.proofs.give.Tie as tie
 
 enum-known-answer : tie.Need-enum-known-answer
 enum-known-answer c = search needs
