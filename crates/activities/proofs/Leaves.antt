@@ -17,7 +17,7 @@ use Rattle.book.specs.Sections.{markOf}
 use Rattle.activities.specs.Leaves.{isParent, leafMark}
 use Rattle.model.specs.Tree.{parents, names, isLeaf}
 use Rattle.tree.specs.Figures.{indexOf, parentsOf, MarksLeaves}
-use Rattle.activities.specs.Columns.{parentNumber}
+use Rattle.spans.specs.Columns.{parentNumber}
 
 -- two maps that agree on every element
 map-same : {A B : Type 0} (f g : A → B) (l : List A) → Every (λ (a : A). f a ≡ g a) l → map f l ≡ map g l

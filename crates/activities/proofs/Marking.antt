@@ -16,7 +16,7 @@ use Rattle.activities.specs.Leaves.{isParent, leafMark}
 use Rattle.model.specs.Lookup.{noActivity}
 use Rattle.model.specs.Tree.{parents}
 use Rattle.tree.specs.Figures.{MarksLeaves}
-use Rattle.activities.specs.Columns.{parentNumber}
+use Rattle.spans.specs.Columns.{parentNumber}
 use Rattle.activities.proofs.Leaves.{marks-leaves}
 
 -- a mark that is set is that of what is named

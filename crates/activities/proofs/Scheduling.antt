@@ -29,12 +29,12 @@ use Rattle.model.specs.Days.{daysOf}
 use Rattle.model.specs.Tree.{parents}
 use Rattle.tree.specs.Figures.{parentsOf}
 use Rattle.lists.proofs.Lists.{at-map}
-use Rattle.activities.specs.Columns.{parentNumber, calendarNumber, firstDate, lastDate, daysIn}
+use Rattle.spans.specs.Columns.{parentNumber, calendarNumber, firstDate, lastDate, daysIn}
 use Rattle.activities.specs.Schedule.{percentGiven, percentBits, percentOf, scheduleRow, scheduleOf, entryAt, calendarIn, firstPlace, lastPlace, firstIn, lastIn}
 use Rattle.activities.specs.Ways.{wayNumber}
-use Rattle.activities.specs.Stretches.{DatedSpans}
+use Rattle.spans.specs.Stretches.{DatedSpans}
 use Rattle.activities.proofs.Rows.{Wide, Copied}
-use Rattle.activities.proofs.Days.{first-in-range, last-in-range, days-are}
+use Rattle.spans.proofs.Days.{first-in-range, last-in-range, days-are}
 use Rattle.activities.proofs.Leaves.{parents-are}
 
 pub row-wide : (date : Option ℕ) → Wide (scheduleRow date) 13

@@ -1,4 +1,3 @@
-pub mod Columns
 pub mod Leaves
 pub mod Schedule
 pub mod Stretches

@@ -9,7 +9,7 @@ use Rattle.format.specs.Book.{Activity, Book}
 use Rattle.money.specs.Words.{bits, ofBits}
 use Rattle.model.specs.declared.Way.{Way}
 use Rattle.model.specs.declared.Way.the-variants.{Planned, Actual, Remaining}
-use Rattle.activities.specs.Columns.{parentNumber, calendarNumber, firstDate, lastDate}
+use Rattle.spans.specs.Columns.{parentNumber, calendarNumber, firstDate, lastDate}
 
 -- ---- a percentage that may be absent: 0 and 0, or 1 and its bits
 

@@ -1,8 +1,4 @@
 // The schedule: the activities in one flat table, thirteen numbers of each.
-use crate::columns::number_or;
-use crate::spans::actual_from;
-use crate::spans::actual_to;
-use crate::spans::remaining_since;
 use crate::ways::way_number;
 use book::Section;
 use book::budgets::mark_of;
@@ -19,6 +15,10 @@ use money::words::to_bits;
 use records::activities::Activity;
 use records::activities::read_activity;
 use rows::put_row;
+use spans::bounds::actual_from;
+use spans::bounds::actual_to;
+use spans::bounds::remaining_since;
+use spans::number_or;
 ghost use mathlib.Core.Path.{_≡_};
 ghost use mathlib.Core.List.{map, flatMap};
 ghost use Prim.Native.Nat.{_+_, _*_, _≤_, _<_};
@@ -34,7 +34,7 @@ ghost use Rattle.model.specs.Lookup.{activityAt};
 ghost use Rattle.book.specs.Plan.{IsPlanOf};
 ghost use Rattle.model.specs.Tree.{parents};
 ghost use Rattle.tree.specs.Figures.{MarksLeaves};
-ghost use Rattle.activities.specs.Columns.{parentNumber};
+ghost use Rattle.spans.specs.Columns.{parentNumber};
 ghost use Rattle.activities.specs.Schedule.{percentGiven, percentBits, percentOf, scheduleRow, scheduleOf, entryAt, firstIn, lastIn};
 
 // The numbers of an activity, and the places among them; the dates are first and last, Planned, Actual and Remaining.
@@ -55,6 +55,9 @@ pub const REMAINING: usize = 10;
 pub const GIVEN: usize = 11;
 
 pub const PERCENT: usize = 12;
+
+// Up to so many activities the tables of a call are small ones, which take less to clear.
+pub const FEW: usize = 32;
 
 fn status_number(status: Status) -> u64
     ensures { λ r. ⌜ r ≡ statusNumber status ⌝ }

@@ -10,3 +10,4 @@ pub mod Arrays
 pub mod MonthDays
 pub mod Grouping
 pub mod Monthly
+pub mod Running

@@ -6,3 +6,4 @@ pub mod points;
 pub mod sizes;
 pub mod spread;
 pub mod table;
+pub mod totals;

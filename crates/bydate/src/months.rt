@@ -1,12 +1,12 @@
 // The months: each that has a marked date, with its dates' sums added up, as a row of two numbers.
 use crate::points::is_marked;
 use crate::points::put_point;
-use activities::stretches::earlier;
 use answers::Reply;
 use answers::TOO_SHORT;
 use money::sums::saturating_add;
 use money::words::from_bits;
 use money::words::to_bits;
+use spans::stretches::earlier;
 ghost use mathlib.Core.List.{map};
 ghost use mathlib.Core.Path.{_≡_};
 ghost use Prim.Native.Nat.{_≤_};

@@ -1,5 +1,5 @@
 // How large tables by date are: small ones are enough for most books, and take less to clear.
-use activities::Stretch;
+use spans::Stretch;
 ghost use mathlib.Core.Bool.{true};
 ghost use mathlib.Core.Path.{_≡_};
 ghost use Prim.Native.Nat.{_+_, _≤_};

@@ -22,7 +22,7 @@ use Rattle.lists.proofs.Spans.{made-length, made-at}
 use Rattle.baseline.proofs.Entries.{entries-are}
 use Rattle.baseline.proofs.Listing.{budgets-long, budget-at, listed-named, listed-list}
 use Rattle.model.proofs.Tree.{parents-count}
-use Rattle.activities.specs.declared.Stretch.{Stretch}
+use Rattle.spans.specs.declared.Stretch.{Stretch}
 use Rattle.bydate.specs.Sizes.{datesOf}
 use Rattle.planned.specs.Values.{plannedIn, plannedAt}
 use Rattle.planned.specs.Reached.{AreDays}

@@ -8,8 +8,8 @@ use lib.ListN.{length}
 use Rattle.format.specs.Book.{Book}
 use Rattle.format.specs.InRange.{InRange, Limits}
 use Rattle.calendar.proofs.Parts.{parts-room}
-use Rattle.activities.specs.declared.Stretch.{Stretch}
-use Rattle.activities.specs.Stretches.{CoversSpans}
+use Rattle.spans.specs.declared.Stretch.{Stretch}
+use Rattle.spans.specs.Stretches.{CoversSpans}
 use Rattle.baseline.specs.Listed.{listedOf, budgetsOf, firstAt, lastAt, numberAt}
 use Rattle.baseline.proofs.Listing.{budgets-long, listed-long, listed-date, listed-named}
 use Rattle.bydate.specs.Sizes.{datesOf}

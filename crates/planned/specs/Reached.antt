@@ -10,8 +10,8 @@ use Rattle.format.specs.InRange.{InRange, Limits}
 use Rattle.format.specs.Verdict.{content, Accepted}
 use Rattle.book.specs.Plan.{Placed}
 use Rattle.calendar.specs.Tables.{ShowsAll}
-use Rattle.activities.specs.declared.Stretch.{Stretch}
-use Rattle.activities.specs.Stretches.{CoversSpans}
+use Rattle.spans.specs.declared.Stretch.{Stretch}
+use Rattle.spans.specs.Stretches.{CoversSpans}
 use Rattle.baseline.specs.Listed.{listedOf, budgetsOf, firstAt, lastAt}
 use Rattle.bydate.specs.Sizes.{datesOf}
 use Rattle.planned.specs.declared.Reach.{Reach}

@@ -1,5 +1,5 @@
 // What is planned by a date of each activity's budget, by a table of the days of the calendars: `width` dates a row, from `base` on.
-use crate::spans::planned_by;
+use crate::part::planned_by;
 use baseline::listed::LISTED_WIDTH;
 ghost use mathlib.Core.Path.{_≡_};
 ghost use mathlib.Core.List.{map};

@@ -1,11 +1,11 @@
 // Planned value of the activities of an accepted book at a date, with a table of days made for it.
 use crate::Reach;
 use crate::own::own_planned;
-use activities::stretches::stretch_of;
 use answers::open::Opened;
 use baseline::listed::LISTED_WIDTH;
 use bydate::sizes::fits_small;
 use calendar::all::fill_all;
+use spans::stretches::stretch_of;
 ghost use mathlib.Core.Path.{_≡_};
 ghost use mathlib.Core.List.{map};
 ghost use Prim.Native.Nat.{_*_, _≤_};

@@ -1,6 +1,6 @@
 -- `row_of` meets its contract: each number is what its function says.
 use Rattle.records.specs.Decoded.{activityOf}
-use Rattle.activities.specs.Columns.{parentNumber, calendarNumber, firstDate, lastDate}
+use Rattle.spans.specs.Columns.{parentNumber, calendarNumber, firstDate, lastDate}
 use Rattle.activities.specs.Schedule.{scheduleRow}
 use Rattle.activities.proofs.schedule.row_of.Statement.{statement}
 use Rattle.activities.proofs.schedule.row_of.Tie as tie

@@ -7,7 +7,8 @@ use Rattle.format.specs.Book.{Book}
 use Rattle.format.specs.InRange.{InRange}
 use Rattle.model.specs.declared.Way.{Way}
 use Rattle.activities.specs.Schedule.{scheduleOf, firstPlace, firstIn, lastIn}
-use Rattle.activities.proofs.Covering.{Covering, covering-none, covering-ways, covers-closed}
+use Rattle.spans.proofs.Covering.{Covering, covering-none, covers-closed}
+use Rattle.activities.proofs.Covering.{covering-ways}
 use Rattle.activities.proofs.Scheduling.{schedule-length, schedule-past, spans-dated}
 use Rattle.activities.proofs.stretches.stretch_all.Statement.{statement}
 use Rattle.activities.proofs.stretches.stretch_all.Tie as tie

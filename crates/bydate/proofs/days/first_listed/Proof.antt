@@ -8,7 +8,6 @@ use lib.ListN.{getD}
 use Rattle.model.specs.Days.{orAlone}
 use Rattle.bydate.specs.Listed.{inRow, workedIn}
 use Rattle.bydate.proofs.Dates.{none-left, one-first, first-kept}
-use borrow.Author.Needs.{needs}
 use Rattle.bydate.proofs.days.first_listed.Statement.{statement}
 use Rattle.bydate.proofs.days.first_listed.Tie as tie
 

@@ -14,7 +14,6 @@ use Rattle.bydate.specs.Listed.{inRow, workedIn}
 use Rattle.bydate.proofs.Laying.{Laying, laying-none, laying-more, laying-past, laying-end, laid-same}
 use Rattle.bydate.proofs.Dealing.{dealt-parted}
 use Rattle.bydate.proofs.Dates.{none-left, one-first, count-first}
-use borrow.Author.Needs.{needs}
 use Rattle.bydate.proofs.deal.lay_days.Statement.{statement}
 use Rattle.bydate.proofs.deal.lay_days.Tie as tie
 

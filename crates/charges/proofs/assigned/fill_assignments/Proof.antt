@@ -22,24 +22,6 @@ loop-holds c =
     let room = c .before .before .pre in
     (rows-none _ _ _ _ _ _ link-wide _ (room .0), rows-none _ _ _ _ _ _ units-wide _ (room .1))
 
-mul-set-link : tie.Need-mul-set-link Inv-loop μ-loop
-mul-set-link c = search needs
-
-set-link-requires : tie.Need-set-link-requires Inv-loop μ-loop
-set-link-requires c κs = search needs
-
-mul-set-units : tie.Need-mul-set-units Inv-loop μ-loop
-mul-set-units c = search needs
-
-set-units-requires : tie.Need-set-units-requires Inv-loop μ-loop
-set-units-requires c κs = search needs
-
-add-i : tie.Need-add-i Inv-loop μ-loop
-add-i c = search needs
-
-loop-less : tie.Need-loop-less Inv-loop μ-loop
-loop-less c = search needs
-
 loop-again : tie.Need-loop-again Inv-loop μ-loop
 loop-again c =
     let second = c .before in
@@ -70,12 +52,12 @@ fill-assignments-spec =
     μ-loop
     loop-holds
     (λ c κs. tt)
-    mul-set-link
-    set-link-requires
-    mul-set-units
-    set-units-requires
-    add-i
-    loop-less
+    (λ c. search needs)
+    (λ c κs. search needs)
+    (λ c. search needs)
+    (λ c κs. search needs)
+    (λ c. search needs)
+    (λ c. search needs)
     loop-again
     same-length
     same-length-2

@@ -22,24 +22,6 @@ loop-holds c =
     let room = c .before .before .pre in
     (rows-none _ _ _ _ _ _ accrual-wide _ (room .0), rows-none _ _ _ _ _ _ amounts-wide _ (room .1))
 
-mul-set-accrual : tie.Need-mul-set-accrual Inv-loop μ-loop
-mul-set-accrual c = search needs
-
-set-accrual-requires : tie.Need-set-accrual-requires Inv-loop μ-loop
-set-accrual-requires c κs = search needs
-
-mul-set-amounts : tie.Need-mul-set-amounts Inv-loop μ-loop
-mul-set-amounts c = search needs
-
-set-amounts-requires : tie.Need-set-amounts-requires Inv-loop μ-loop
-set-amounts-requires c κs = search needs
-
-add-i : tie.Need-add-i Inv-loop μ-loop
-add-i c = search needs
-
-loop-less : tie.Need-loop-less Inv-loop μ-loop
-loop-less c = search needs
-
 loop-again : tie.Need-loop-again Inv-loop μ-loop
 loop-again c =
     let second = c .before in
@@ -70,12 +52,12 @@ fill-expenses-spec =
     μ-loop
     loop-holds
     (λ c κs. tt)
-    mul-set-accrual
-    set-accrual-requires
-    mul-set-amounts
-    set-amounts-requires
-    add-i
-    loop-less
+    (λ c. search needs)
+    (λ c κs. search needs)
+    (λ c. search needs)
+    (λ c κs. search needs)
+    (λ c. search needs)
+    (λ c. search needs)
     loop-again
     same-length
     same-length-2
