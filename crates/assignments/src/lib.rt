@@ -1,6 +1,6 @@
 // The assignments: what each costs over its activity's days, charged to the row of its activity.
-use activities::Stretch;
 use book::Section;
+use spans::Stretch;
 
 pub mod calendars;
 pub mod entries;

@@ -43,11 +43,11 @@ use Rattle.model.proofs.Costs.{leaf-cost}
 use Rattle.flat.proofs.Tables.{flat-same}
 use Rattle.tree.specs.Figures.{figureOf, MarksLeaves}
 use Rattle.flat.proofs.Spans.{rows-length, rows-at}
-use Rattle.activities.specs.declared.Stretch.{Stretch}
-use Rattle.activities.specs.Columns.{calendarNumber, firstDate, lastDate, daysIn}
+use Rattle.spans.specs.declared.Stretch.{Stretch}
+use Rattle.spans.specs.Columns.{calendarNumber, firstDate, lastDate, daysIn}
 use Rattle.activities.specs.Schedule.{scheduleOf}
-use Rattle.activities.specs.Stretches.{DatedSpans, CoversSpans}
-use Rattle.activities.proofs.Days.{date-days}
+use Rattle.spans.specs.Stretches.{DatedSpans, CoversSpans}
+use Rattle.spans.proofs.Days.{date-days}
 use Rattle.activities.proofs.Scheduling.{calendar-at, first-at, last-at}
 use Rattle.baseline.specs.Lines.{lineBy, lineRow, linesTable, IsLines}
 use Rattle.baseline.specs.Listed.{byLine, startOf, finishOf, listedFirst, listedLast, listedRow, listedOf, firstAt, lastAt, numberAt, ifLeaf, ofLeaf, budgetsOf, PlannedCosts}

@@ -14,7 +14,7 @@ use Rattle.model.specs.Amounts.{saturatedSum}
 use Rattle.model.specs.Tree.{parents, indices, isLeaf}
 use Rattle.model.specs.Costs.{byDay}
 use Rattle.model.specs.Planned.{lineOf, budgetOf}
-use Rattle.activities.specs.Columns.{calendarNumber}
+use Rattle.spans.specs.Columns.{calendarNumber}
 
 -- ---- the listed days of an activity
 

@@ -2,6 +2,7 @@
 use crate::lines::LINE_WIDTH;
 use crate::lines::lines_of;
 use crate::lines::take_lines;
+use activities::schedule::FEW;
 use activities::schedule::SCHEDULE_WIDTH;
 use activities::schedule::parent_marks;
 use answers::open::Opened;
@@ -104,7 +105,7 @@ fn list_by(
     fill_budgets(schedule, lines, costs, budgets);
 }
 
-// From the schedule and the activities' own costs, of which the planned ones stand first.
+// From the schedule and the activities' own costs, of which the planned ones stand first. A small table for few activities.
 pub fn list_spans(
     book: &[u8],
     opened: Opened,
@@ -121,10 +122,24 @@ pub fn list_spans(
     ensures budgets { λ r. ⌜ now (budgets .exit) ≡ budgetsOf (content (now (book .entry))) ⌝ }
 {
     let n = budgets.len();
+    let list = lines_of(opened.ledger.baseline);
+    if n <= FEW {
+        let mut lines = [0u64; 160];
+        list_by(
+            book,
+            list,
+            schedule,
+            costs,
+            &mut lines[..n * LINE_WIDTH],
+            listed,
+            budgets,
+        );
+        return;
+    }
     let mut lines = [0u64; 2500];
     list_by(
         book,
-        lines_of(opened.ledger.baseline),
+        list,
         schedule,
         costs,
         &mut lines[..n * LINE_WIDTH],

@@ -14,7 +14,7 @@ use Rattle.book.specs.Plan.{IsPlanOf, IsLedgerOf}
 use Rattle.book.proofs.Plan.{activities-count, activities-most, budgets-in-range, log-in-range}
 use Rattle.model.specs.Tree.{parents}
 use Rattle.model.proofs.Tree.{parents-count as named-count}
-use Rattle.activities.specs.Columns.{parentNumber}
+use Rattle.spans.specs.Columns.{parentNumber}
 use Rattle.ledger.specs.Arguments.{IsBudgets, IsLog, AreParents}
 use Rattle.ledger.proofs.Handed.{above-length}
 

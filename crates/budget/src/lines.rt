@@ -1,5 +1,6 @@
 // The lines of a book with activities.
 use crate::scheduled::scheduled;
+use activities::schedule::FEW;
 use activities::schedule::SCHEDULE_WIDTH;
 use activities::schedule::copy_parents;
 use activities::schedule::fill_schedule;
@@ -19,14 +20,14 @@ ghost use Rattle.format.specs.Book.{Book};
 ghost use Rattle.format.specs.Verdict.{content};
 ghost use Rattle.model.specs.Budgets.{budgetLines};
 ghost use Rattle.rows.specs.Rows.{numbers};
-ghost use Rattle.activities.specs.Columns.{parentNumber};
+ghost use Rattle.spans.specs.Columns.{parentNumber};
 ghost use Rattle.activities.specs.Schedule.{scheduleOf};
 ghost use Rattle.answers.specs.Opened.{IsOpened};
 ghost use Rattle.answers.specs.Rows.{budgetRows};
 ghost use Rattle.answers.specs.Calls.{Puts};
 ghost use Rattle.ledger.specs.Arguments.{AreParents, IsBooked, IsHanded};
 
-// All of them. `costs` is for what is scheduled.
+// All of them. `own` and `costs` are for what is scheduled.
 fn put_in(
     book: &[u8],
     opened: Opened,
@@ -34,17 +35,18 @@ fn put_in(
     parents: &[u64],
     accounts: &[i64; 3006],
     marks: &[u64; 501],
+    own: &mut [i64],
     costs: &mut [i64],
     out: &mut [u64],
 )
     requires { ⌜ IsOpened (now book) opened ⌝ }
     requires { ⌜ (now schedule ≡ scheduleOf (content (now book))) × (now parents ≡ map parentNumber (content (now book) .activities)) ⌝ }
     requires { ⌜ IsHanded (content (now book)) (now accounts) (now marks) ⌝ }
-    requires { ⌜ length (now costs) ≡ opened .plan .activities .count * 3 ⌝ }
+    requires { ⌜ (length (now own) ≡ opened .plan .activities .count * 3) × (length (now costs) ≡ opened .plan .activities .count * 3) ⌝ }
     requires { ⌜ length (now out) ≡ length (budgetLines (content (now book))) * 10 ⌝ }
     ensures { λ r. ⌜ now (out .exit) ≡ numbers (budgetRows (content (now (book .entry)))) ⌝ }
 {
-    let whole = scheduled(book, opened, schedule, parents, costs);
+    let whole = scheduled(book, opened, schedule, parents, own, costs);
     put_lines(whole, parents, costs, marks, accounts, out);
 }
 
@@ -64,8 +66,25 @@ fn put_all(
     requires { ⌜ length (now out) ≡ length (budgetLines (content (now book))) * 10 ⌝ }
     ensures { λ r. ⌜ now (out .exit) ≡ numbers (budgetRows (content (now (book .entry)))) ⌝ }
 {
-    let mut costs = [0i64; 1500];
     let n = opened.plan.activities.count as usize * COST_WIDTH;
+    if opened.plan.activities.count <= FEW as u64 {
+        let mut own = [0i64; 96];
+        let mut costs = [0i64; 96];
+        put_in(
+            book,
+            opened,
+            schedule,
+            parents,
+            accounts,
+            marks,
+            &mut own[..n],
+            &mut costs[..n],
+            out,
+        );
+        return;
+    }
+    let mut own = [0i64; 1500];
+    let mut costs = [0i64; 1500];
     put_in(
         book,
         opened,
@@ -73,6 +92,7 @@ fn put_all(
         parents,
         accounts,
         marks,
+        &mut own[..n],
         &mut costs[..n],
         out,
     );
@@ -151,9 +171,22 @@ pub fn lines_of(
     requires { ⌜ IsBooked (content (now book)) (now accounts) (now marks) ⌝ }
     ensures { λ r. ⌜ Puts (budgetRows (content (now (book .entry)))) (now (out .entry)) r (now (out .exit)) ⌝ }
 {
+    let n = opened.plan.activities.count as usize;
+    if opened.plan.activities.count <= FEW as u64 {
+        let mut schedule = [0u64; 416];
+        let mut parents = [0u64; 32];
+        return lines_in(
+            book,
+            opened,
+            &mut schedule[..n * SCHEDULE_WIDTH],
+            &mut parents[..n],
+            accounts,
+            marks,
+            out,
+        );
+    }
     let mut schedule = [0u64; 6500];
     let mut parents = [0u64; 500];
-    let n = opened.plan.activities.count as usize;
     lines_in(
         book,
         opened,

@@ -11,13 +11,13 @@ ghost use Prim.Native.Nat.{_*_};
 ghost use lib.ListN.{length};
 ghost use Rattle.format.specs.Verdict.{content};
 ghost use Rattle.model.specs.Costs.{projectCost};
-ghost use Rattle.activities.specs.Columns.{parentNumber};
+ghost use Rattle.spans.specs.Columns.{parentNumber};
 ghost use Rattle.activities.specs.Schedule.{scheduleOf};
 ghost use Rattle.answers.specs.Opened.{IsOpened};
 ghost use Rattle.tree.specs.Tables.{rolledCosts};
 
 // Three costs of each activity, with those below it; the project's planned one is returned. `own` is for the activities' own.
-fn schedule_in(
+pub fn scheduled(
     book: &[u8],
     opened: Opened,
     schedule: &[u64],
@@ -36,23 +36,4 @@ fn schedule_in(
     roll_rows(parents, COST_WIDTH, own, out);
     let leaves = parent_marks(schedule);
     leaf_row_sum(&leaves, COST_WIDTH, 0, own)
-}
-
-// The same, with memory of its own.
-pub fn scheduled(
-    book: &[u8],
-    opened: Opened,
-    schedule: &[u64],
-    parents: &[u64],
-    out: &mut [i64],
-) -> i64
-    requires { ⌜ IsOpened (now book) opened ⌝ }
-    requires { ⌜ (now schedule ≡ scheduleOf (content (now book))) × (now parents ≡ map parentNumber (content (now book) .activities)) ⌝ }
-    requires { ⌜ length (now out) ≡ opened .plan .activities .count * 3 ⌝ }
-    ensures each { λ r. ⌜ now (out .exit) ≡ rolledCosts (content (now (book .entry))) ⌝ }
-    ensures whole { λ r. ⌜ r ≡ projectCost (content (now (book .entry))) .budget ⌝ }
-{
-    let mut own = [0i64; 1500];
-    let n = opened.plan.activities.count as usize * COST_WIDTH;
-    schedule_in(book, opened, schedule, parents, &mut own[..n], out)
 }

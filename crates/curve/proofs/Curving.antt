@@ -1,16 +1,16 @@
 -- What is asked of an accepted book: its tables are as laying and writing need them, and the rows are the curve's.
 use Prim.Native.Nat.{ℕ, _+_, _*_, _≤_, _<_, min, max}
-use mathlib.Core.Path.{_≡_, sym, ap, ap₂, _∙_}
+use mathlib.Core.Path.{_≡_, sym, ap, ap₂, _∙_, subst}
 use mathlib.Core.List.{List, [], map}
 use native.Mathlib.Nat.{mul-le-mul-right}
 use native.Mathlib.Omega.{arith}
 use lib.IntN.{ℤ, pos}
-use lib.ListN.{length, getD, replicate, length-replicate}
+use lib.ListN.{length, getD, take, replicate}
 use Rattle.format.specs.Book.{Book}
 use Rattle.format.specs.Format as layout
-use Rattle.format.specs.InRange.{Every, CalendarInRange, InRange}
+use Rattle.format.specs.InRange.{InRange}
 use Rattle.format.specs.Verdict.{content}
-use Rattle.format.proofs.Theorems.{content-limits, content-in-range}
+use Rattle.format.proofs.Theorems.{content-in-range}
 use Rattle.book.specs.Sections.{alikeIn}
 use Rattle.book.specs.Plan.{IsPlanOf}
 use Rattle.book.proofs.Plan.{calendars-count, calendars-least, calendars-most, activities-count, activities-most}
@@ -18,13 +18,15 @@ use Rattle.lists.specs.Lists.{keep}
 use Rattle.model.specs.Amounts.{Dated, isBetween}
 use Rattle.model.specs.Planned.{plannedByDay, running, plannedCurveBetween}
 use Rattle.calendar.specs.Tables.{ShowsAll}
-use Rattle.activities.specs.declared.Stretch.{Stretch}
-use Rattle.activities.specs.Stretches.{CoversSpans}
+use Rattle.spans.specs.declared.Stretch.{Stretch}
+use Rattle.spans.specs.Stretches.{CoversSpans}
 use Rattle.answers.specs.declared.Reply.{Reply}
 use Rattle.answers.specs.Calls.{Puts}
 use Rattle.answers.specs.Rows.{pointRow}
 use Rattle.bydate.specs.Laid.{Laid}
+use Rattle.bydate.specs.Sizes.{datesOf, IsEmpty}
 use Rattle.bydate.specs.Pointed.{pointsIn, Reaches}
+use Rattle.bydate.proofs.Arrays.{front-long}
 use Rattle.bydate.proofs.Pointing.{points-laid}
 use Rattle.bydate.proofs.Laying.{laid-same}
 use Rattle.bydate.proofs.Writing.{puts-same}
@@ -33,10 +35,9 @@ use Rattle.costs.specs.Figures.{ownCostRow}
 use Rattle.costs.proofs.Owned.{own-length, own-at}
 use Rattle.baseline.specs.Listed.{firstAt, lastAt, PlannedCosts}
 use Rattle.curve.specs.declared.Asked.{Asked}
-use Rattle.planned.specs.Tabled.{AreTabled}
-use Rattle.planned.proofs.Tabling.{lists-tabled}
+use Rattle.planned.specs.Reached.{IsReach}
 use Rattle.curve.specs.Budgeted.{budgetsLaid}
-use Rattle.curve.specs.Asking.{AreLists, IsAsked, widthOf}
+use Rattle.curve.specs.Asking.{AreLists, IsAsked, HasRoom}
 use Rattle.curve.proofs.Narrow.{curve-none, curve-narrow, curve-from}
 use Rattle.curve.proofs.Planning.{planned-within, lists-planned}
 
@@ -47,8 +48,8 @@ module _ {s : List ℕ} {asked : Asked} {marks listed : List ℕ} {budgets : Lis
   asked-range : InRange (content s)
   asked-range = content-in-range s (asked-plan .accepted)
 
-  pub asked-calendars : Every CalendarInRange (alikeIn layout.calendar s (asked .opened .plan .calendars))
-  asked-calendars = rw (asked-plan .calendars .listed) at (asked-range .calendars)
+  pub asked-reached : IsReach s (record { calendars = asked .opened .plan .calendars; known = asked .known }) listed budgets
+  asked-reached = record { accepted = asked-plan .accepted; calendars = asked-plan .calendars; spans = a .lists .spans; budgeted = a .lists .budgeted; covers = a .covers }
 
   -- ---- the tables
 
@@ -61,50 +62,61 @@ module _ {s : List ℕ} {asked : Asked} {marks listed : List ℕ} {budgets : Lis
   most : length (content s .activities) ≤ 500
   most = omega (arith, activities-count asked-plan, activities-most asked-plan)
 
-  module _ {days : List ℕ} (room : asked .opened .plan .calendars .count * widthOf asked ≤ length days) where
-    pub asked-tabled : AreTabled (asked .known .from) (widthOf asked) (length budgets) days listed
-    asked-tabled = lists-tabled (content s) (a .lists .spans) (a .lists .budgeted) asked-range (content-limits s (asked-plan .accepted)) (a .covers) (rw (calendars-count asked-plan) room)
-
+  module _ {days : List ℕ} (room : asked .opened .plan .calendars .count * datesOf (asked .known) ≤ length days) where
     pub asked-planned : ShowsAll (alikeIn layout.calendar s (asked .opened .plan .calendars)) (asked .known .from) (asked .known .to) days
-        → {before after : List ℕ} → Laid (asked .known .from) (budgetsLaid (asked .known .from) (widthOf asked) days marks listed budgets) before after
+        → {before after : List ℕ} → Laid (asked .known .from) (budgetsLaid (asked .known .from) (datesOf (asked .known)) days marks listed budgets) before after
         → Laid (asked .known .from) (plannedByDay (content s)) before after
     asked-planned shown l =
         let shows : ShowsAll (content s .calendars) (asked .known .from) (asked .known .to) days = rw (asked-plan .calendars .listed) shown in
         laid-same (lists-planned (content s) (a .lists) asked-range (a .covers) some few most (rw (calendars-count asked-plan) room) shows) l
 
-  -- ---- tables for all dates of a book
+  -- ---- tables by date
 
-  pub full-dates : widthOf asked ≤ 36525
+  pub full-dates : datesOf (asked .known) ≤ 36525
   full-dates = omega (arith, a .covers .least, a .covers .most)
 
-  pub full-days : asked .opened .plan .calendars .count * widthOf asked ≤ 584400
-  full-days = omega (arith, full-dates, mul-le-mul-right (widthOf asked) (calendars-most asked-plan))
+  -- the days of all calendars over at most n dates
+  pub short-days : (n : ℕ) → datesOf (asked .known) ≤ n → asked .opened .plan .calendars .count * datesOf (asked .known) ≤ 16 * n
+  short-days n h = omega (arith, mul-le-mul-right (datesOf (asked .known)) (calendars-most asked-plan))
 
   -- ---- the points
 
-  -- a table of so many numbers has the dates that are asked
-  module _ (n : ℕ) {table : List ℕ} (e : length table ≡ n) (h : widthOf asked * 2 ≤ n) where
-    pub asked-reach : Reaches (asked .known .from) table (asked .from) (asked .to)
+  module _ {before after : List ℕ} (w : IsEmpty (datesOf (asked .known)) before) (l : Laid (asked .known .from) (plannedByDay (content s)) before after) where
+    -- the table has the dates that are asked
+    pub asked-reach : Reaches (asked .known .from) after (asked .from) (asked .to)
     asked-reach =
         record {
           start = a .begins;
-          reach = omega (arith, a .begins, a .rises, a .ends);
+          reach = omega (arith, a .begins, a .rises, a .ends, w .room, l .long);
           latest = omega (arith, a .ends, a .covers .most);
         }
 
-    all-reach : Reaches (asked .known .from) table (asked .known .from) (asked .to)
+    all-reach : Reaches (asked .known .from) after (asked .known .from) (asked .to)
     all-reach = record { start = omega arith; reach = asked-reach .reach; latest = asked-reach .latest }
 
-  -- what is laid onto an empty table of n numbers makes the rows
-  pub asked-rows :
-      (n : ℕ) {table : List ℕ} → Laid (asked .known .from) (plannedByDay (content s)) (replicate n 0) table → widthOf asked * 2 ≤ n → {out after : List ℕ} {r : Reply} →
-      Puts (map pointRow (keep (isBetween (asked .from) (asked .to)) (running (pos 0) (pointsIn (asked .known .from) table (asked .known .from) (asked .to))))) out r after →
-      Puts (map pointRow (plannedCurveBetween (content s) (asked .from) (asked .to))) out r after
-  asked-rows n l h p =
-      puts-same
-      (ap (λ (xs : List Dated). keep (isBetween (asked .from) (asked .to)) (running (pos 0) xs)) (points-laid n l (all-reach n (l .long ∙ length-replicate {A = ℕ} n 0) h))
-      ∙ curve-from (content s) (asked .known .from) (asked .known .to) (planned-within (content s) (a .lists) asked-range (a .covers)) (asked .from) (asked .to) (a .ends))
-      p
+    -- what is laid onto it makes the rows
+    pub asked-rows :
+        {out end : List ℕ} {r : Reply} →
+        Puts (map pointRow (keep (isBetween (asked .from) (asked .to)) (running (pos 0) (pointsIn (asked .known .from) after (asked .known .from) (asked .to))))) out r end →
+        Puts (map pointRow (plannedCurveBetween (content s) (asked .from) (asked .to))) out r end
+    asked-rows p =
+        let laid = subst (λ (t : List ℕ). Laid (asked .known .from) (plannedByDay (content s)) t after) (w .empty) l in
+        puts-same
+        (ap (λ (xs : List Dated). keep (isBetween (asked .from) (asked .to)) (running (pos 0) xs)) (points-laid (length before) laid all-reach)
+        ∙ curve-from (content s) (asked .known .from) (asked .known .to) (planned-within (content s) (a .lists) asked-range (a .covers)) (asked .from) (asked .to) (a .ends))
+        p
+
+-- ---- parts of arrays for m activities
+
+pub lists-room :
+    (m : ℕ) {n : ℕ} → n ≤ m → HasRoom n (take (n * 13) (replicate (m * 13) 0)) (take (n * 3) (replicate (m * 3) (pos 0))) (take (n * 3) (replicate (m * 3) 0)) (take n (replicate m (pos 0)))
+lists-room m {n} h =
+    record {
+      forSchedule = sym (front-long {A = ℕ} (m * 13) 0 (n * 13) (omega arith));
+      forCosts = sym (front-long (m * 3) (pos 0) (n * 3) (omega arith));
+      forListed = sym (front-long {A = ℕ} (m * 3) 0 (n * 3) (omega arith));
+      forBudgets = sym (front-long m (pos 0) n h);
+    }
 
 -- ---- the own costs, as what planned value is made of asks for them
 

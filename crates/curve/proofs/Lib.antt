@@ -1,4 +1,3 @@
-pub mod Running
 pub mod Narrow
 pub mod Planning
 pub mod Curving

@@ -19,9 +19,9 @@ use Rattle.lists.proofs.Spans.{span-in}
 use Rattle.lists.proofs.Lists.{keep-in}
 use Rattle.calendar.specs.Tables.{ShowsAll}
 use Rattle.tree.specs.Figures.{figureOf}
-use Rattle.activities.specs.declared.Stretch.{Stretch}
-use Rattle.activities.specs.Stretches.{CoversSpans}
-use Rattle.activities.proofs.Days.{days-covered}
+use Rattle.spans.specs.declared.Stretch.{Stretch}
+use Rattle.spans.specs.Stretches.{CoversSpans}
+use Rattle.spans.proofs.Days.{days-covered}
 use Rattle.bydate.specs.declared.days.Span.{Span}
 use Rattle.bydate.specs.Laid.{Laid}
 use Rattle.bydate.specs.Listed.{listedIn, spanOf, IsSpan}

@@ -1,5 +1,5 @@
 -- What is asked of an opened book, what planned value is made of, and room for it.
-use Prim.Native.Nat.{ℕ, _+_, _*_, _-_, _≤_}
+use Prim.Native.Nat.{ℕ, _*_, _≤_}
 use mathlib.Core.Path.{_≡_}
 use mathlib.Core.List.{List}
 use lib.IntN.{ℤ}
@@ -8,7 +8,7 @@ use Rattle.format.specs.Book.{Book}
 use Rattle.format.specs.Verdict.{content}
 use Rattle.model.specs.Tree.{parents}
 use Rattle.tree.specs.Figures.{MarksLeaves}
-use Rattle.activities.specs.Stretches.{CoversSpans}
+use Rattle.spans.specs.Stretches.{CoversSpans}
 use Rattle.answers.specs.Opened.{IsOpened}
 use Rattle.baseline.specs.Listed.{listedOf, budgetsOf, firstAt, lastAt}
 use Rattle.curve.specs.declared.Asked.{Asked}
@@ -27,10 +27,6 @@ pub record IsAsked (s : List ℕ) (asked : Asked) (marks listed : List ℕ) (bud
   pub begins : asked .known .from ≤ asked .from
   pub rises : asked .from ≤ asked .to
   pub ends : asked .to ≤ asked .known .to
-
--- the dates of the stretch
-abbrev pub widthOf : Asked → ℕ
-widthOf asked = asked .known .to + 1 - asked .known .from
 
 -- room for n activities
 pub record HasRoom (n : ℕ) (schedule : List ℕ) (costs : List ℤ) (listed : List ℕ) (budgets : List ℤ) : Type 0 where

@@ -1,26 +1,26 @@
 // The planned curve: the running total of what is planned by date, over all leaves.
 pub mod leaves;
-pub mod totals;
 
 use crate::leaves::lay_leaves;
-use crate::totals::write_totals;
-use activities::Stretch;
+use activities::schedule::FEW;
 use activities::schedule::SCHEDULE_WIDTH;
 use activities::schedule::fill_schedule;
 use activities::schedule::parent_marks;
-use activities::stretches::earlier;
-use activities::stretches::later;
-use activities::stretches::stretch_of;
 use answers::Reply;
 use answers::open::Opened;
 use baseline::listed::LISTED_WIDTH;
 use baseline::listed::list_spans;
 use bydate::sizes::fits_small;
+use bydate::totals::write_totals;
 use calendar::all::fill_all;
 use costs::own::own_costs;
+use spans::Stretch;
+use spans::stretches::earlier;
+use spans::stretches::later;
+use spans::stretches::stretch_of;
 use tree::table::COST_WIDTH;
 ghost use mathlib.Core.List.{map};
-ghost use Prim.Native.Nat.{_+_, _*_, _-_, _≤_};
+ghost use Prim.Native.Nat.{_*_, _≤_};
 ghost use lib.ListN.{length};
 ghost use Rattle.format.specs.Verdict.{content};
 ghost use Rattle.model.specs.Planned.{plannedByDay, plannedCurveBetween};
@@ -28,8 +28,8 @@ ghost use Rattle.answers.specs.Calls.{Puts};
 ghost use Rattle.answers.specs.Opened.{IsOpened};
 ghost use Rattle.answers.specs.Rows.{pointRow, plannedCurveRows};
 ghost use Rattle.bydate.specs.Laid.{Laid};
-ghost use Rattle.bydate.specs.Sizes.{FitsSmall};
-ghost use Rattle.curve.specs.Asking.{AreLists, IsAsked, widthOf, HasRoom};
+ghost use Rattle.bydate.specs.Sizes.{datesOf, FitsSmall, IsEmpty};
+ghost use Rattle.curve.specs.Asking.{AreLists, IsAsked, HasRoom};
 
 // What is asked of an opened book: the dates between two of the stretch that its listed spans take.
 pub struct Asked {
@@ -70,7 +70,7 @@ fn lay_plan(
     table: &mut [u64],
 )
     requires { ⌜ IsAsked (now book) asked (now marks) (now listed) (now budgets) ⌝ }
-    requires { ⌜ asked .opened .plan .calendars .count * widthOf asked ≤ length (now days) ⌝ }
+    requires { ⌜ asked .opened .plan .calendars .count * datesOf (asked .known) ≤ length (now days) ⌝ }
     ensures { λ r. ⌜ Laid (asked .known .from) (plannedByDay (content (now (book .entry)))) (now (table .entry)) (now (table .exit)) ⌝ }
 {
     fill_all(
@@ -82,6 +82,53 @@ fn lay_plan(
     );
     let width = asked.known.to + 1 - asked.known.from;
     lay_leaves(marks, budgets, listed, days, asked.known.from, width, table);
+}
+
+// The rows, by tables that are lent: of the days, and by date.
+fn rows_in(
+    book: &[u8],
+    asked: Asked,
+    marks: &[u64; 500],
+    budgets: &[i64],
+    listed: &[u64],
+    days: &mut [u8],
+    table: &mut [u64],
+    out: &mut [u64],
+) -> Reply
+    requires { ⌜ IsAsked (now book) asked (now marks) (now listed) (now budgets) ⌝ }
+    requires { ⌜ asked .opened .plan .calendars .count * datesOf (asked .known) ≤ length (now days) ⌝ }
+    requires { ⌜ IsEmpty (datesOf (asked .known)) (now table) ⌝ }
+    ensures { λ r. ⌜ Puts (map pointRow (plannedCurveBetween (content (now (book .entry))) (asked .from) (asked .to))) (now (out .entry)) r (now (out .exit)) ⌝ }
+{
+    lay_plan(book, asked, marks, budgets, listed, days, table);
+    write_totals(asked.known.from, asked.from, asked.to, table, out)
+}
+
+// The rows of a stretch of at most 256 dates.
+fn short_rows(
+    book: &[u8],
+    asked: Asked,
+    marks: &[u64; 500],
+    budgets: &[i64],
+    listed: &[u64],
+    out: &mut [u64],
+) -> Reply
+    requires { ⌜ IsAsked (now book) asked (now marks) (now listed) (now budgets) ⌝ }
+    requires { ⌜ datesOf (asked .known) ≤ 256 ⌝ }
+    ensures { λ r. ⌜ Puts (map pointRow (plannedCurveBetween (content (now (book .entry))) (asked .from) (asked .to))) (now (out .entry)) r (now (out .exit)) ⌝ }
+{
+    let mut days = [0u8; 4096];
+    let mut table = [0u64; 512];
+    rows_in(
+        book,
+        asked,
+        marks,
+        budgets,
+        listed,
+        &mut days,
+        &mut table,
+        out,
+    )
 }
 
 // The rows, by small tables.
@@ -99,8 +146,16 @@ fn small_rows(
 {
     let mut days = [0u8; 8192];
     let mut table = [0u64; 4096];
-    lay_plan(book, asked, marks, budgets, listed, &mut days, &mut table);
-    write_totals(asked.known.from, asked.from, asked.to, &mut table, out)
+    rows_in(
+        book,
+        asked,
+        marks,
+        budgets,
+        listed,
+        &mut days,
+        &mut table,
+        out,
+    )
 }
 
 // The rows, by a table for all dates of a book.
@@ -117,8 +172,7 @@ fn full_table(
     ensures { λ r. ⌜ Puts (map pointRow (plannedCurveBetween (content (now (book .entry))) (asked .from) (asked .to))) (now (out .entry)) r (now (out .exit)) ⌝ }
 {
     let mut table = [0u64; 73050];
-    lay_plan(book, asked, marks, budgets, listed, days, &mut table);
-    write_totals(asked.known.from, asked.from, asked.to, &mut table, out)
+    rows_in(book, asked, marks, budgets, listed, days, &mut table, out)
 }
 
 // The same, with room for the days of as many calendars as a book may have.
@@ -161,6 +215,9 @@ fn rows_of(
     if asked.to < asked.from {
         return Reply::Accepted(0);
     }
+    if known.to < known.from + 256 {
+        return short_rows(book, asked, marks, budgets, listed, out);
+    }
     if fits_small(opened.plan.calendars.count, known) {
         return small_rows(book, asked, marks, budgets, listed, out);
     }
@@ -186,9 +243,33 @@ fn rows_by(
     rows_of(book, opened, between, &marks, budgets, listed, out)
 }
 
-// The rows between two dates, with tables for as many activities as a book may have.
-fn rows_among(book: &[u8], opened: Opened, between: Stretch, out: &mut [u64]) -> Reply
+// The rows between two dates, with tables for few activities.
+fn few_rows(book: &[u8], opened: Opened, between: Stretch, out: &mut [u64]) -> Reply
     requires { ⌜ IsOpened (now book) opened ⌝ }
+    requires { ⌜ opened .plan .activities .count ≤ 32 ⌝ }
+    ensures { λ r. ⌜ Puts (map pointRow (plannedCurveBetween (content (now (book .entry))) (between .from) (between .to))) (now (out .entry)) r (now (out .exit)) ⌝ }
+{
+    let mut schedule = [0u64; 416];
+    let mut costs = [0i64; 96];
+    let mut listed = [0u64; 96];
+    let mut budgets = [0i64; 32];
+    let n = opened.plan.activities.count as usize;
+    rows_by(
+        book,
+        opened,
+        between,
+        &mut schedule[..n * SCHEDULE_WIDTH],
+        &mut costs[..n * COST_WIDTH],
+        &mut listed[..n * LISTED_WIDTH],
+        &mut budgets[..n],
+        out,
+    )
+}
+
+// The same, with tables for as many activities as a book may have.
+fn many_rows(book: &[u8], opened: Opened, between: Stretch, out: &mut [u64]) -> Reply
+    requires { ⌜ IsOpened (now book) opened ⌝ }
+    requires { ⌜ opened .plan .activities .count ≤ 500 ⌝ }
     ensures { λ r. ⌜ Puts (map pointRow (plannedCurveBetween (content (now (book .entry))) (between .from) (between .to))) (now (out .entry)) r (now (out .exit)) ⌝ }
 {
     let mut schedule = [0u64; 6500];
@@ -216,5 +297,8 @@ pub fn planned_curve_of(book: &[u8], opened: Opened, from: u64, to: u64, out: &m
     if opened.plan.activities.count == 0 {
         return Reply::Accepted(0);
     }
-    rows_among(book, opened, Stretch { from, to }, out)
+    if opened.plan.activities.count <= FEW as u64 {
+        return few_rows(book, opened, Stretch { from, to }, out);
+    }
+    many_rows(book, opened, Stretch { from, to }, out)
 }

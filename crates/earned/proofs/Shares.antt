@@ -2,6 +2,7 @@
 use Prim.Native.Nat.{ℕ, _<_}
 use mathlib.Core.Path.{_≡_, refl}
 use mathlib.Core.List.{List}
+use mathlib.Core.Option.{Option}
 use lib.IntN.{ℤ}
 use lib.ListN.{length}
 use Rattle.format.specs.declared.Status.{Status}
@@ -14,33 +15,31 @@ use Rattle.model.specs.Lookup.{noActivity, activityAt}
 use Rattle.model.specs.Earned.{unitsDone, unitsInAll, performanceBy, performance}
 use Rattle.activities.specs.Schedule.{scheduleRow, scheduleOf}
 use Rattle.activities.proofs.Scheduling.{status-at, working-at, remaining-at, percent-at, row-status, row-working, row-remaining, row-percent}
-use Rattle.earned.specs.Done.{doneBy, doneIn}
+use Rattle.earned.specs.Done.{doneIn}
 use Rattle.earned.specs.Units.{ifUnits}
 
-module _ (b : Book) (i : ℕ) where
-  share-by :
-      (technique : EvTechnique) (status : Status) → let a = activityAt b i in
-      doneBy technique (a .percent) (a .workingMinutes) (a .remainingMinutes) (ifUnits technique (unitsDone b i)) (ifUnits technique (unitsInAll b i)) status ≡ performanceBy b i technique status
-  share-by Physical NotStarted = refl
-  share-by Duration NotStarted = refl
-  share-by Units NotStarted = refl
-  share-by ZeroHundred NotStarted = refl
-  share-by FiftyFifty NotStarted = refl
-  share-by (Custom share) NotStarted = refl
-  share-by Physical InProgress = refl
-  share-by Duration InProgress = refl
-  share-by Units InProgress = refl
-  share-by ZeroHundred InProgress = refl
-  share-by FiftyFifty InProgress = refl
-  share-by (Custom share) InProgress = refl
-  share-by technique Completed = refl
+-- units count for one technique only
+module _ (percent : Option ℤ) (working remaining : ℕ) (done all : ℤ) where
+  by-units :
+      (technique : EvTechnique) (status : Status) →
+      performanceBy technique status percent working remaining (ifUnits technique done) (ifUnits technique all) ≡ performanceBy technique status percent working remaining done all
+  by-units Physical InProgress = refl
+  by-units Duration InProgress = refl
+  by-units Units InProgress = refl
+  by-units ZeroHundred InProgress = refl
+  by-units FiftyFifty InProgress = refl
+  by-units (Custom share) InProgress = refl
+  by-units technique NotStarted = refl
+  by-units technique Completed = refl
 
+module _ (b : Book) (i : ℕ) where
   pub share-is :
       {schedule : List ℕ} → schedule ≡ scheduleOf b → InRange b → i < length (b .activities) → (technique : EvTechnique) → b .technique ≡ technique → {done all : ℤ} →
       done ≡ ifUnits technique (unitsDone b i) → all ≡ ifUnits technique (unitsInAll b i) → doneIn technique schedule i done all ≡ performance b i
   unfolding doneIn performance
   share-is e r h technique t d u =
-      rw (percent-at b e i h (r .activities i noActivity h .percent), working-at b e i h, remaining-at b e i h, status-at b e i h, d, u, ← t) (share-by (b .technique) (activityAt b i .status))
+      let a = activityAt b i in
+      rw (percent-at b e i h (r .activities i noActivity h .percent), working-at b e i h, remaining-at b e i h, status-at b e i h, d, u, ← t) (by-units (a .percent) (a .workingMinutes) (a .remainingMinutes) (unitsDone b i) (unitsInAll b i) (b .technique) (a .status))
 
   -- by the row of the activity alone
   pub share-row :
@@ -50,4 +49,4 @@ module _ (b : Book) (i : ℕ) where
   share-row e r h technique t d u =
       let date = b .dataDate in
       let a = activityAt b i in
-      rw (row-percent date a e (r .activities i noActivity h .percent), row-working date a e, row-remaining date a e, row-status date a e, d, u, ← t) (share-by (b .technique) (a .status))
+      rw (row-percent date a e (r .activities i noActivity h .percent), row-working date a e, row-remaining date a e, row-status date a e, d, u, ← t) (by-units (a .percent) (a .workingMinutes) (a .remainingMinutes) (unitsDone b i) (unitsInAll b i) (b .technique) (a .status))

@@ -1,4 +1,5 @@
 // The activities' own figures at a date: planned value is put beside those that no date changes.
+use activities::schedule::FEW;
 use answers::open::Opened;
 use planned::values::planned_values;
 use tree::table::VALUE_WIDTH;
@@ -47,7 +48,7 @@ fn date_by(
     put_planned(planned, out);
 }
 
-// From the listed spans and the budgets; `out` has the other figures, and any planned value.
+// From the listed spans and the budgets; `out` has the other figures, and any planned value. A small column for few activities.
 pub fn date_values(
     book: &[u8],
     opened: Opened,
@@ -62,6 +63,11 @@ pub fn date_values(
     ensures { λ r. ⌜ now (out .exit) ≡ ownValues (content (now (book .entry))) date ⌝ }
 {
     let n = budgets.len();
+    if n <= FEW {
+        let mut planned = [0i64; 32];
+        date_by(book, opened, date, listed, budgets, &mut planned[..n], out);
+        return;
+    }
     let mut planned = [0i64; 500];
     date_by(book, opened, date, listed, budgets, &mut planned[..n], out);
 }

@@ -1,6 +1,7 @@
 // The activities' own figures that no date changes: budget, earned value, actual and remaining cost of leaves, 0 for parents.
 use crate::performance::share_done;
 use crate::units::fill_units;
+use activities::schedule::FEW;
 use activities::schedule::parent_marks;
 use answers::open::Opened;
 use floats::earned;
@@ -116,7 +117,7 @@ fn measure_by(
     measure_rows(technique, schedule, units, costs, budgets, out);
 }
 
-// From the schedule, the own costs and the budgets.
+// From the schedule, the own costs and the budgets. A small table for few activities.
 pub fn measure(
     book: &[u8],
     opened: Opened,
@@ -131,6 +132,19 @@ pub fn measure(
     ensures { λ r. ⌜ now (out .exit) ≡ measuredOf (content (now (book .entry))) ⌝ }
 {
     let n = budgets.len();
+    if n <= FEW {
+        let mut units = [0i64; 64];
+        measure_by(
+            book,
+            opened,
+            schedule,
+            costs,
+            budgets,
+            &mut units[..n * 2],
+            out,
+        );
+        return;
+    }
     let mut units = [0i64; 1000];
     measure_by(
         book,

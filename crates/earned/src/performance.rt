@@ -20,7 +20,7 @@ ghost use Rattle.format.specs.InRange.{IsMinutes};
 ghost use Rattle.fields.specs.Optional.{amountOption};
 ghost use Rattle.model.specs.Earned as model;
 ghost use Rattle.activities.specs.Schedule.{entryAt};
-ghost use Rattle.earned.specs.Done as made;
+ghost use Rattle.earned.specs.Done.{doneIn};
 
 fn value_or(index: Index, other: f64) -> f64
     ensures { λ r. ⌜ r ≡ model.valueOr index other ⌝ }
@@ -43,7 +43,7 @@ fn amount_or_zero(amount: OptionalAmount) -> i64
 // The minutes worked, of all; 0 where there are none.
 fn by_duration(working: u64, remaining: u64) -> f64
     requires { ⌜ IsMinutes working × IsMinutes remaining ⌝ }
-    ensures { λ r. ⌜ r ≡ made.byMinutes working remaining ⌝ }
+    ensures { λ r. ⌜ r ≡ model.byDuration working remaining ⌝ }
 {
     let all = working as i64;
     let left = remaining as i64;
@@ -53,7 +53,7 @@ fn by_duration(working: u64, remaining: u64) -> f64
 
 // Before the work is marked started: a percent that was judged, and nothing else.
 fn unstarted(technique: EvTechnique, percent: OptionalAmount) -> f64
-    ensures { λ r. ⌜ r ≡ made.unstartedBy technique (amountOption percent) ⌝ }
+    ensures { λ r. ⌜ r ≡ model.unstarted technique (amountOption percent) ⌝ }
 {
     match technique {
         EvTechnique::Physical => share(amount_or_zero(percent)),
@@ -75,7 +75,7 @@ fn under_way(
     all: i64,
 ) -> f64
     requires { ⌜ IsMinutes working × IsMinutes remaining ⌝ }
-    ensures { λ r. ⌜ r ≡ made.underWayBy technique (amountOption percent) working remaining done all ⌝ }
+    ensures { λ r. ⌜ r ≡ model.underWay technique (amountOption percent) working remaining done all ⌝ }
 {
     match technique {
         EvTechnique::Physical => share(amount_or_zero(percent)),
@@ -94,7 +94,7 @@ fn under_way(
 pub fn share_done(technique: EvTechnique, schedule: &[u64], i: usize, done: i64, all: i64) -> f64
     requires { ⌜ i * 13 + 12 < length (now schedule) ⌝ }
     requires { ⌜ IsMinutes (entryAt (now schedule) i 9) × IsMinutes (entryAt (now schedule) i 10) ⌝ }
-    ensures { λ r. ⌜ r ≡ made.doneIn technique (now (schedule .entry)) i done all ⌝ }
+    ensures { λ r. ⌜ r ≡ doneIn technique (now (schedule .entry)) i done all ⌝ }
 {
     let status = status_at(schedule, i);
     let percent = percent_at(schedule, i);

@@ -1,5 +1,5 @@
 -- From the closes, the planned values and the figures of the records to the rows of the periods.
-use Prim.Native.Nat.{ℕ, zero, suc, _+_, _*_, _<_}
+use Prim.Native.Nat.{ℕ, zero, suc, _+_, _*_, _≤_, _<_}
 use native.Mathlib.Numerals.{add-one, add-two, add-three, add-four, add-five, add-six}
 use native.Mathlib.Omega.{arith}
 use mathlib.Core.Path.{_≡_, refl, sym, ap, _∙_, subst}
@@ -42,6 +42,8 @@ use Rattle.answers.specs.Opened.{IsOpened}
 use Rattle.answers.specs.Rows.{periodRow, periodPointsRows}
 use Rattle.answers.proofs.Sized.{Sized, sized}
 use Rattle.baseline.specs.Listed.{PlannedCosts}
+use Rattle.bydate.proofs.Arrays.{front-long}
+use Rattle.periods.specs.Lent.{HasRoom}
 use Rattle.periods.specs.Points.{recorded, pointRow, pointAt}
 
 -- ---- a fold over records
@@ -203,3 +205,12 @@ zero-figures zero n i = refl
 zero-figures (suc k) zero i = refl
 zero-figures (suc k) (suc n) zero = refl
 zero-figures (suc k) (suc n) (suc i) = zero-figures k n i
+
+-- parts of arrays for m activities
+pub arrays-room : (m : ℕ) {n : ℕ} → n ≤ m → HasRoom n (take (n * 3) (replicate (m * 3) (pos 0))) (take (n * 3) (replicate (m * 3) 0)) (take n (replicate m (pos 0)))
+arrays-room m {n} h =
+    record {
+      forCosts = sym (front-long (m * 3) (pos 0) (n * 3) (omega arith));
+      forListed = sym (front-long {A = ℕ} (m * 3) 0 (n * 3) (omega arith));
+      forBudgets = sym (front-long m (pos 0) n h);
+    }

@@ -3,6 +3,7 @@ use crate::finishes::fill_finishes;
 use crate::listed::project_planned;
 use crate::points::put_points;
 use crate::points::take_records;
+use activities::schedule::FEW;
 use activities::schedule::SCHEDULE_WIDTH;
 use activities::schedule::fill_schedule;
 use activities::schedule::parent_marks;
@@ -58,9 +59,36 @@ fn put_figures(
     put_points(finishes, planned, figures, out);
 }
 
-// The rows of at most 240 periods.
-fn put_periods(book: &[u8], opened: Opened, schedule: &[u64], marks: &[u64], out: &mut [u64])
+// The rows of at most 24 periods.
+fn put_few(book: &[u8], opened: Opened, schedule: &[u64], marks: &[u64], out: &mut [u64])
     requires { ⌜ IsOpened (now book) opened ⌝ }
+    requires { ⌜ opened .ledger .periods .count ≤ 24 ⌝ }
+    requires { ⌜ now schedule ≡ scheduleOf (content (now book)) ⌝ }
+    requires { ⌜ MarksLeaves (now marks) (parents (content (now book))) × (500 ≤ length (now marks)) ⌝ }
+    requires { ⌜ length (now out) ≡ opened .ledger .periods .count * 7 ⌝ }
+    ensures { λ r. ⌜ now (out .exit) ≡ numbers (periodPointsRows (content (now (book .entry)))) ⌝ }
+{
+    let n = opened.ledger.periods.count as usize;
+    let size = n * WIDTH;
+    let mut finishes = [0u64; 24];
+    let mut planned = [0i64; 24];
+    let mut figures = [0i64; 72];
+    put_figures(
+        book,
+        opened,
+        schedule,
+        marks,
+        &mut finishes[..n],
+        &mut planned[..n],
+        &mut figures[..size],
+        out,
+    );
+}
+
+// The rows of as many periods as a book may have.
+fn put_many(book: &[u8], opened: Opened, schedule: &[u64], marks: &[u64], out: &mut [u64])
+    requires { ⌜ IsOpened (now book) opened ⌝ }
+    requires { ⌜ opened .ledger .periods .count ≤ 240 ⌝ }
     requires { ⌜ now schedule ≡ scheduleOf (content (now book)) ⌝ }
     requires { ⌜ MarksLeaves (now marks) (parents (content (now book))) × (500 ≤ length (now marks)) ⌝ }
     requires { ⌜ length (now out) ≡ opened .ledger .periods .count * 7 ⌝ }
@@ -83,6 +111,21 @@ fn put_periods(book: &[u8], opened: Opened, schedule: &[u64], marks: &[u64], out
     );
 }
 
+// The rows of the periods, with the smaller tables where they do.
+fn put_periods(book: &[u8], opened: Opened, schedule: &[u64], marks: &[u64], out: &mut [u64])
+    requires { ⌜ IsOpened (now book) opened ⌝ }
+    requires { ⌜ now schedule ≡ scheduleOf (content (now book)) ⌝ }
+    requires { ⌜ MarksLeaves (now marks) (parents (content (now book))) × (500 ≤ length (now marks)) ⌝ }
+    requires { ⌜ length (now out) ≡ opened .ledger .periods .count * 7 ⌝ }
+    ensures { λ r. ⌜ now (out .exit) ≡ numbers (periodPointsRows (content (now (book .entry)))) ⌝ }
+{
+    if opened.ledger.periods.count <= 24 {
+        put_few(book, opened, schedule, marks, out);
+        return;
+    }
+    put_many(book, opened, schedule, marks, out);
+}
+
 // By a schedule that is lent to be filled.
 fn put_scheduled(book: &[u8], opened: Opened, schedule: &mut [u64], out: &mut [u64])
     requires { ⌜ IsOpened (now book) opened ⌝ }
@@ -102,7 +145,13 @@ fn fill_periods(book: &[u8], opened: Opened, out: &mut [u64])
     requires { ⌜ length (now out) ≡ opened .ledger .periods .count * 7 ⌝ }
     ensures { λ r. ⌜ now (out .exit) ≡ numbers (periodPointsRows (content (now (book .entry)))) ⌝ }
 {
-    let size = opened.plan.activities.count as usize * SCHEDULE_WIDTH;
+    let n = opened.plan.activities.count as usize;
+    let size = n * SCHEDULE_WIDTH;
+    if n <= FEW {
+        let mut schedule = [0u64; 416];
+        put_scheduled(book, opened, &mut schedule[..size], out);
+        return;
+    }
     let mut schedule = [0u64; 6500];
     put_scheduled(book, opened, &mut schedule[..size], out);
 }

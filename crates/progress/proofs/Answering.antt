@@ -2,14 +2,21 @@
 use Prim.Native.Nat.{ℕ, _≤_, _<_}
 use native.Mathlib.Omega.{arith}
 use mathlib.Core.Path.{_≡_, refl, ap, sym, _∙_}
-use mathlib.Core.List.{List, [], _∷_}
+use mathlib.Core.List.{List, [], _∷_, map}
+use lib.IntN.{ℤ}
 use lib.ListN.{length, set, length-map}
 use lib.Seq.{sets, sets-eq, set-split}
 use Rattle.floats.specs.Figures.{bitsOf}
 use Rattle.format.specs.Book.{Book}
+use Rattle.format.specs.InRange.{InRange}
 use Rattle.model.specs.Tree.{parents, indices}
 use Rattle.model.specs.Earned.{earnedAt, earnedValue, projectEarned, performance}
 use Rattle.lists.proofs.Spans.{span-length}
+use Rattle.tree.specs.Figures.{parentsOf, rolledRows}
+use Rattle.tree.specs.Tables.{ownValues, rolledValues}
+use Rattle.tree.proofs.Figured.{values-rolled}
+use Rattle.spans.specs.Columns.{parentNumber}
+use Rattle.activities.proofs.Leaves.{parents-are}
 use Rattle.answers.specs.declared.Reply.the-variants.{Accepted}
 use Rattle.answers.specs.Rows.{earnedRow, earnedValueRows, projectEarnedRows, performanceRows}
 use Rattle.answers.specs.Calls.{Puts}
@@ -17,6 +24,12 @@ use Rattle.answers.proofs.Sized.{Sized, sized, one-sized, one-numbers, in-front
 use Rattle.model.proofs.Tree.{parents-count}
 use Rattle.value.specs.Figures.{width}
 use Rattle.value.proofs.Reading.{row-six}
+
+-- the own figures, rolled up along the walks
+pub values-from :
+    (b : Book) (date : ℕ) → InRange b → length (b .activities) ≤ 500 → {ps : List ℕ} {own out : List ℤ} →
+    ps ≡ map parentNumber (b .activities) → own ≡ ownValues b date → out ≡ rolledRows 5 ps own → out ≡ rolledValues b date
+values-from b date r few {ps = ps} named made rolled = rolled ∙ ap (rolledRows 5 ps) made ∙ values-rolled b date ps (ap parentsOf named ∙ parents-are b few r)
 
 pub values-sized : (date : ℕ) (b : Book) (n : ℕ) → length (b .activities) ≡ n → Sized (earnedValueRows date b) n width
 unfolding earnedValueRows earnedValue

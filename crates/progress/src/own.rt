@@ -1,4 +1,5 @@
 // The activities' own figures of earned value at a date, from the book.
+use activities::schedule::FEW;
 use activities::schedule::fill_schedule;
 use answers::open::Opened;
 use baseline::listed::LISTED_WIDTH;
@@ -57,7 +58,7 @@ fn make_own(
     date_values(book, opened, date, listed, budgets, own);
 }
 
-// The own figures, and the schedule that they are made from.
+// The own figures, and the schedule that they are made from: small tables for few activities.
 pub fn own_values(book: &[u8], opened: Opened, date: u64, schedule: &mut [u64], own: &mut [i64])
     requires { ⌜ IsOpened (now book) opened ⌝ }
     requires { ⌜ (length (now schedule) ≡ opened .plan .activities .count * 13) × (length (now own) ≡ opened .plan .activities .count * 5) ⌝ }
@@ -65,6 +66,22 @@ pub fn own_values(book: &[u8], opened: Opened, date: u64, schedule: &mut [u64], 
     ensures own { λ r. ⌜ now (own .exit) ≡ ownValues (content (now (book .entry))) date ⌝ }
 {
     let n = opened.plan.activities.count as usize;
+    if n <= FEW {
+        let mut costs = [0i64; 96];
+        let mut listed = [0u64; 96];
+        let mut budgets = [0i64; 32];
+        make_own(
+            book,
+            opened,
+            date,
+            schedule,
+            &mut costs[..n * COST_WIDTH],
+            &mut listed[..n * LISTED_WIDTH],
+            &mut budgets[..n],
+            own,
+        );
+        return;
+    }
     let mut costs = [0i64; 1500];
     let mut listed = [0u64; 1500];
     let mut budgets = [0i64; 500];

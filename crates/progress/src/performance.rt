@@ -1,4 +1,5 @@
 // How much of an activity is done, under the technique of the book.
+use activities::schedule::FEW;
 use activities::schedule::row_at;
 use answers::Reply;
 use answers::TOO_SHORT;
@@ -33,13 +34,17 @@ fn measure_by(book: &[u8], opened: Opened, activity: u64, units: &mut [i64]) -> 
     share_done(technique, &row, 0, done, all)
 }
 
-// Of activity i.
+// Of activity i: a small table for few activities.
 fn performance(book: &[u8], opened: Opened, activity: u64) -> f64
     requires { ⌜ IsOpened (now book) opened ⌝ }
     requires { ⌜ activity < opened .plan .activities .count ⌝ }
     ensures { λ r. ⌜ r ≡ model.performance (content (now (book .entry))) activity ⌝ }
 {
     let count = opened.plan.activities.count as usize;
+    if count <= FEW {
+        let mut units = [0i64; 64];
+        return measure_by(book, opened, activity, &mut units[..count * 2]);
+    }
     let mut units = [0i64; 1000];
     measure_by(book, opened, activity, &mut units[..count * 2])
 }

@@ -1,5 +1,6 @@
 // Earned value of the project: the leaves' own figures, added up.
 use crate::own::own_values;
+use activities::schedule::FEW;
 use activities::schedule::SCHEDULE_WIDTH;
 use activities::schedule::parent_marks;
 use answers::Reply;
@@ -36,7 +37,7 @@ fn add_leaves(
     sums(&marks, own)
 }
 
-// The figures of the project at a date.
+// The figures of the project at a date: small tables for few activities.
 pub fn project_earned(book: &[u8], opened: Opened, date: u64) -> Earned
     requires { ⌜ IsOpened (now book) opened ⌝ }
     ensures { λ r. ⌜ r ≡ projectEarned (content (now (book .entry))) date ⌝ }
@@ -50,6 +51,17 @@ pub fn project_earned(book: &[u8], opened: Opened, date: u64) -> Earned
             actual: 0,
             remaining: 0,
         };
+    }
+    if count <= FEW {
+        let mut schedule = [0u64; 416];
+        let mut own = [0i64; 160];
+        return add_leaves(
+            book,
+            opened,
+            date,
+            &mut schedule[..count * SCHEDULE_WIDTH],
+            &mut own[..count * VALUE_WIDTH],
+        );
     }
     let mut schedule = [0u64; 6500];
     let mut own = [0i64; 2500];

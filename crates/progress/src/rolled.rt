@@ -1,5 +1,6 @@
 // Earned value of the activities: each activity's own figures, and those of the activities below it.
 use crate::own::own_values;
+use activities::schedule::FEW;
 use activities::schedule::SCHEDULE_WIDTH;
 use activities::schedule::copy_parents;
 use answers::Reply;
@@ -11,63 +12,79 @@ use tree::table::roll_rows;
 use value::WIDTH;
 use value::earned_at;
 use value::put_values;
-ghost use Prim.Native.Nat.{ℕ, _*_, _≤_, _<_};
+ghost use Prim.Native.Nat.{_*_, _<_};
 ghost use mathlib.Core.Path.{_≡_};
 ghost use lib.ListN.{length};
-ghost use Rattle.format.specs.InRange.{InRange};
-ghost use Rattle.format.specs.Book.{Book};
 ghost use Rattle.format.specs.Verdict.{content};
 ghost use Rattle.model.specs.Earned.{earnedAt};
-ghost use Rattle.tree.specs.Tables.{ownValues, rolledValues};
+ghost use Rattle.tree.specs.Tables.{rolledValues};
 ghost use Rattle.rows.specs.Rows.{numbers};
-ghost use Rattle.activities.specs.Schedule.{scheduleOf};
 ghost use Rattle.answers.specs.Rows.{earnedValueRows};
 ghost use Rattle.answers.specs.Calls.{Puts};
 ghost use Rattle.answers.specs.Opened.{IsOpened};
 
-// With a column for the parents.
-fn roll_by(schedule: &[u64], parents: &mut [u64], own: &[i64], out: &mut [i64])
-    requires { ⌜ (length (now schedule) ≡ length (now parents) * 13) × (length (now own) ≡ length (now parents) * 5) × (length (now out) ≡ length (now parents) * 5) ⌝ }
-    ensures { λ r. ⌜ ((book : Book) (date : ℕ) → InRange book → length (book .activities) ≤ 500 → now (schedule .entry) ≡ scheduleOf book → now (own .entry) ≡ ownValues book date → now (out .exit) ≡ rolledValues book date) ⌝ }
+// The own figures, then rolled up, from tables to work in.
+fn roll_own(
+    book: &[u8],
+    opened: Opened,
+    date: u64,
+    schedule: &mut [u64],
+    own: &mut [i64],
+    parents: &mut [u64],
+    out: &mut [i64],
+)
+    requires { ⌜ IsOpened (now book) opened ⌝ }
+    requires { ⌜ (length (now schedule) ≡ opened .plan .activities .count * 13) × (length (now own) ≡ opened .plan .activities .count * 5) × (length (now parents) ≡ opened .plan .activities .count) × (length (now out) ≡ opened .plan .activities .count * 5) ⌝ }
+    ensures { λ r. ⌜ now (out .exit) ≡ rolledValues (content (now (book .entry))) date ⌝ }
 {
+    own_values(book, opened, date, schedule, own);
     copy_parents(schedule, parents);
     roll_rows(parents, VALUE_WIDTH, own, out);
 }
 
-// The own figures, then rolled up.
-fn roll_values(
-    book: &[u8],
-    opened: Opened,
-    date: u64,
-    schedule: &mut [u64],
-    own: &mut [i64],
-    out: &mut [i64],
-)
+// The same, with room for the tables: small ones for few activities.
+fn roll_values(book: &[u8], opened: Opened, date: u64, out: &mut [i64])
     requires { ⌜ IsOpened (now book) opened ⌝ }
-    requires { ⌜ (length (now schedule) ≡ opened .plan .activities .count * 13) × (length (now own) ≡ opened .plan .activities .count * 5) × (length (now out) ≡ opened .plan .activities .count * 5) ⌝ }
+    requires { ⌜ length (now out) ≡ opened .plan .activities .count * 5 ⌝ }
     ensures { λ r. ⌜ now (out .exit) ≡ rolledValues (content (now (book .entry))) date ⌝ }
 {
     let n = opened.plan.activities.count as usize;
-    own_values(book, opened, date, schedule, own);
+    if n <= FEW {
+        let mut schedule = [0u64; 416];
+        let mut own = [0i64; 160];
+        let mut parents = [0u64; 32];
+        roll_own(
+            book,
+            opened,
+            date,
+            &mut schedule[..n * SCHEDULE_WIDTH],
+            &mut own[..n * VALUE_WIDTH],
+            &mut parents[..n],
+            out,
+        );
+        return;
+    }
+    let mut schedule = [0u64; 6500];
+    let mut own = [0i64; 2500];
     let mut parents = [0u64; 500];
-    roll_by(schedule, &mut parents[..n], own, out);
+    roll_own(
+        book,
+        opened,
+        date,
+        &mut schedule[..n * SCHEDULE_WIDTH],
+        &mut own[..n * VALUE_WIDTH],
+        &mut parents[..n],
+        out,
+    );
 }
 
-// The rows, from tables to work in.
-fn fill_rows(
-    book: &[u8],
-    opened: Opened,
-    date: u64,
-    schedule: &mut [u64],
-    own: &mut [i64],
-    rolled: &mut [i64],
-    out: &mut [u64],
-)
+// The rows, from a table of the rolled figures.
+fn fill_rows(book: &[u8], opened: Opened, date: u64, rolled: &mut [i64], out: &mut [u64])
     requires { ⌜ IsOpened (now book) opened ⌝ }
-    requires { ⌜ (length (now schedule) ≡ opened .plan .activities .count * 13) × (length (now own) ≡ opened .plan .activities .count * 5) × (length (now rolled) ≡ opened .plan .activities .count * 5) × (length (now out) ≡ opened .plan .activities .count * 6) ⌝ }
+    requires { ⌜ (length (now rolled) ≡ opened .plan .activities .count * 5) × (length (now out) ≡ opened .plan .activities .count * 6) ⌝ }
     ensures { λ r. ⌜ now (out .exit) ≡ numbers (earnedValueRows date (content (now (book .entry)))) ⌝ }
 {
-    roll_values(book, opened, date, schedule, own, rolled);
+    roll_values(book, opened, date, rolled);
     put_values(rolled, opened.plan.activities.count as usize, out);
 }
 
@@ -84,57 +101,50 @@ pub fn earned_value_of(book: &[u8], opened: Opened, date: u64, out: &mut [u64]) 
     if count == 0 {
         return Reply::Accepted(0);
     }
-    let mut schedule = [0u64; 6500];
-    let mut own = [0i64; 2500];
+    if count <= FEW {
+        let mut rolled = [0i64; 160];
+        fill_rows(
+            book,
+            opened,
+            date,
+            &mut rolled[..count * VALUE_WIDTH],
+            &mut out[..n],
+        );
+        return Reply::Accepted(count as u64);
+    }
     let mut rolled = [0i64; 2500];
     fill_rows(
         book,
         opened,
         date,
-        &mut schedule[..count * SCHEDULE_WIDTH],
-        &mut own[..count * VALUE_WIDTH],
         &mut rolled[..count * VALUE_WIDTH],
         &mut out[..n],
     );
     Reply::Accepted(count as u64)
 }
 
-// The figures of an activity, from tables to work in.
-fn figures_at(
-    book: &[u8],
-    opened: Opened,
-    date: u64,
-    activity: u64,
-    schedule: &mut [u64],
-    own: &mut [i64],
-    rolled: &mut [i64],
-) -> Earned
+// The figures of an activity, from a table of the rolled figures.
+fn figures_at(book: &[u8], opened: Opened, date: u64, activity: u64, rolled: &mut [i64]) -> Earned
     requires { ⌜ IsOpened (now book) opened ⌝ }
     requires { ⌜ activity < opened .plan .activities .count ⌝ }
-    requires { ⌜ (length (now schedule) ≡ opened .plan .activities .count * 13) × (length (now own) ≡ opened .plan .activities .count * 5) × (length (now rolled) ≡ opened .plan .activities .count * 5) ⌝ }
+    requires { ⌜ length (now rolled) ≡ opened .plan .activities .count * 5 ⌝ }
     ensures { λ r. ⌜ r ≡ earnedAt (content (now (book .entry))) date activity ⌝ }
 {
-    roll_values(book, opened, date, schedule, own, rolled);
+    roll_values(book, opened, date, rolled);
     earned_at(rolled, activity as usize)
 }
 
-// The figures of an activity at a date.
+// The figures of an activity at a date: a small table for few activities.
 pub fn activity_earned(book: &[u8], opened: Opened, date: u64, activity: u64) -> Earned
     requires { ⌜ IsOpened (now book) opened ⌝ }
     requires { ⌜ activity < opened .plan .activities .count ⌝ }
     ensures { λ r. ⌜ r ≡ earnedAt (content (now (book .entry))) date activity ⌝ }
 {
-    let count = opened.plan.activities.count as usize;
-    let mut schedule = [0u64; 6500];
-    let mut own = [0i64; 2500];
+    let n = opened.plan.activities.count as usize;
+    if n <= FEW {
+        let mut rolled = [0i64; 160];
+        return figures_at(book, opened, date, activity, &mut rolled[..n * VALUE_WIDTH]);
+    }
     let mut rolled = [0i64; 2500];
-    figures_at(
-        book,
-        opened,
-        date,
-        activity,
-        &mut schedule[..count * SCHEDULE_WIDTH],
-        &mut own[..count * VALUE_WIDTH],
-        &mut rolled[..count * VALUE_WIDTH],
-    )
+    figures_at(book, opened, date, activity, &mut rolled[..n * VALUE_WIDTH])
 }

@@ -5,7 +5,7 @@ use mathlib.Core.List.{List, [], map, flatMap}
 use native.Mathlib.Nat.{mul-le-mul-right}
 use native.Mathlib.Omega.{arith}
 use lib.IntN.{ℤ, pos}
-use lib.ListN.{length, getD, take, replicate, length-replicate}
+use lib.ListN.{length, getD, take, replicate}
 use Rattle.format.specs.Format as layout
 use Rattle.format.specs.InRange.{Every, CalendarInRange, InRange}
 use Rattle.format.specs.Book.{Book}
@@ -21,9 +21,9 @@ use Rattle.model.proofs.Points.{points-none}
 use Rattle.calendar.specs.Tables.{ShowsAll}
 use Rattle.fields.specs.declared.OptionalNumber.{OptionalNumber}
 use Rattle.book.specs.declared.layout.Plan.{Plan}
-use Rattle.activities.specs.declared.Stretch.{Stretch}
+use Rattle.spans.specs.declared.Stretch.{Stretch}
 use Rattle.activities.specs.Schedule.{scheduleOf, firstIn, lastIn}
-use Rattle.activities.specs.Stretches.{DatedSpans, CoversSpans}
+use Rattle.spans.specs.Stretches.{DatedSpans, CoversSpans}
 use Rattle.answers.specs.declared.Reply.{Reply}
 use Rattle.answers.specs.Calls.{Puts}
 use Rattle.answers.specs.Rows.{pointRow}
@@ -33,7 +33,7 @@ use Rattle.bydate.specs.Pointed.{pointsIn, Reaches}
 use Rattle.bydate.proofs.Arrays.{front-long}
 use Rattle.bydate.proofs.Pointing.{points-laid, points-narrow}
 use Rattle.bydate.proofs.Writing.{puts-same}
-use Rattle.bydate.specs.Sizes.{datesOf}
+use Rattle.bydate.specs.Sizes.{datesOf, IsEmpty}
 use Rattle.spending.specs.declared.asked.Asked.{Asked}
 use Rattle.spending.specs.declared.charged.Frame.{Frame}
 use Rattle.spending.specs.Asking.{IsAsked, IsCharged}
@@ -126,32 +126,35 @@ module _ {s : List ℕ} {asked : Asked} {schedule : List ℕ} (a : IsAsked s ask
   unfolding ratesOf
   asked-charged t e c = charged-are t asked-range (e ∙ sym (ap (flatMap rateRow) (asked-plan .resources .listed))) c
 
-  -- ---- tables for all dates of a book
+  -- ---- tables by date
 
   pub full-dates : datesOf (asked .known) ≤ 36525
   full-dates = omega (arith, a .covers .least, a .covers .most)
 
-  pub full-days : asked .opened .plan .calendars .count * datesOf (asked .known) ≤ 584400
-  full-days = omega (arith, full-dates, mul-le-mul-right (datesOf (asked .known)) (calendars-most asked-plan))
+  -- the days of all calendars over at most n dates
+  pub short-days : (n : ℕ) → datesOf (asked .known) ≤ n → asked .opened .plan .calendars .count * datesOf (asked .known) ≤ 16 * n
+  short-days n h = omega (arith, mul-le-mul-right (datesOf (asked .known)) (calendars-most asked-plan))
 
   pub full-charges : chargeCount (asked .opened .plan) ≤ 3000
   full-charges = omega (arith, assignments-most asked-plan, expenses-most asked-plan)
 
   -- ---- the points
 
-  -- a table of so many dates has those that are asked
-  pub asked-reach : (n : ℕ) {table : List ℕ} → length table ≡ n → datesOf (asked .known) * 2 ≤ n → Reaches (asked .known .from) table (asked .from) (asked .to)
-  asked-reach n e h =
-      record {
-        start = a .begins;
-        reach = omega (arith, a .begins, a .rises, a .ends);
-        latest = omega (arith, a .ends, a .covers .most);
-      }
+  module _ {before after : List ℕ} (w : IsEmpty (datesOf (asked .known)) before) (l : Laid (asked .known .from) (budgetByDay (content s)) before after) where
+    -- the table has the dates that are asked
+    pub asked-reach : Reaches (asked .known .from) after (asked .from) (asked .to)
+    asked-reach =
+        record {
+          start = a .begins;
+          reach = omega (arith, a .begins, a .rises, a .ends, w .room, l .long);
+          latest = omega (arith, a .ends, a .covers .most);
+        }
 
-  -- what is laid onto an empty table of n numbers makes the rows
-  pub asked-rows :
-      (n : ℕ) {table : List ℕ} → Laid (asked .known .from) (budgetByDay (content s)) (replicate n 0) table → datesOf (asked .known) * 2 ≤ n → {out after : List ℕ} {r : Reply} →
-      Puts (map pointRow (grained (asked .grain) (pointsIn (asked .known .from) table (asked .from) (asked .to)))) out r after →
-      Puts (map pointRow (grained (asked .grain) (spendingBetween (content s) (asked .from) (asked .to)))) out r after
-  unfolding spendingBetween
-  asked-rows n l h p = puts-same (ap (grained (asked .grain)) (points-laid n l (asked-reach n (l .long ∙ length-replicate {A = ℕ} n 0) h))) p
+    -- what is laid onto it makes the rows
+    pub asked-rows :
+        {out end : List ℕ} {r : Reply} → Puts (map pointRow (grained (asked .grain) (pointsIn (asked .known .from) after (asked .from) (asked .to)))) out r end →
+        Puts (map pointRow (grained (asked .grain) (spendingBetween (content s) (asked .from) (asked .to)))) out r end
+    unfolding spendingBetween
+    asked-rows p =
+        let laid = subst (λ (t : List ℕ). Laid (asked .known .from) (budgetByDay (content s)) t after) (w .empty) l in
+        puts-same (ap (grained (asked .grain)) (points-laid (length before) laid asked-reach)) p

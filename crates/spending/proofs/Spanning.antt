@@ -18,11 +18,11 @@ use Rattle.model.specs.Amounts.{isCharged}
 use Rattle.model.specs.Costs.{budgetByDay}
 use Rattle.calendar.specs.Tables.{ShowsAll}
 use Rattle.calendar.proofs.Parts.{parts-room}
-use Rattle.activities.specs.declared.Stretch.{Stretch}
-use Rattle.activities.specs.Columns.{firstDate}
+use Rattle.spans.specs.declared.Stretch.{Stretch}
+use Rattle.spans.specs.Columns.{firstDate}
 use Rattle.activities.specs.Schedule.{scheduleOf, calendarIn, firstIn, lastIn}
-use Rattle.activities.specs.Stretches.{CoversSpans}
-use Rattle.activities.proofs.Days.{days-in, days-covered}
+use Rattle.spans.specs.Stretches.{CoversSpans}
+use Rattle.spans.proofs.Days.{days-in, days-covered}
 use Rattle.activities.proofs.Scheduling.{schedule-long, schedule-most, schedule-calendar, schedule-days, first-at}
 use Rattle.bydate.proofs.Showing.{row-listed}
 use Rattle.spending.specs.Charged.{AreSpans, IsScheduled}

@@ -5,9 +5,9 @@ use mathlib.Core.List.{List}
 use lib.IntN.{ℤ}
 use Rattle.format.specs.Verdict.{content}
 use Rattle.model.specs.declared.Way.the-variants.{Planned}
-use Rattle.activities.specs.declared.Stretch.{Stretch}
+use Rattle.spans.specs.declared.Stretch.{Stretch}
 use Rattle.activities.specs.Schedule.{scheduleOf, firstIn, lastIn}
-use Rattle.activities.specs.Stretches.{CoversSpans}
+use Rattle.spans.specs.Stretches.{CoversSpans}
 use Rattle.answers.specs.Opened.{IsOpened}
 use Rattle.bydate.specs.Sizes.{datesOf}
 use Rattle.spending.specs.declared.asked.Asked.{Asked}

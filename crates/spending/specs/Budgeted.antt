@@ -15,7 +15,11 @@ pub record HasRoom (plan : Plan) (rates links : List ℕ) (units : List ℤ) : T
   pub forLinks : length links ≡ chargeCount plan * 2
   pub forUnits : length units ≡ chargeCount plan * 3
 
--- the arrays for few charges and resources are large enough
-pub record AreFew (count resources : ℕ) : Type 0 where
-  pub charged : count ≤ 256
-  pub rated : resources ≤ 24
+-- at most c charges and r resources
+pub record AreWithin (c r count resources : ℕ) : Type 0 where
+  pub charged : count ≤ c
+  pub rated : resources ≤ r
+
+-- few charges and resources
+abbrev pub AreFew : ℕ → ℕ → Type 0
+AreFew = AreWithin 256 24

@@ -1,7 +1,7 @@
 // What is asked of an opened book.
 use crate::charged::Frame;
-use activities::Stretch;
 use answers::open::Opened;
+use spans::Stretch;
 ghost use mathlib.Core.Path.{_≡_};
 ghost use Prim.Native.Nat.{_+_, _≤_};
 ghost use Rattle.spending.specs.Asking.{frameOf};

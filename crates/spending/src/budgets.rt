@@ -19,7 +19,7 @@ ghost use Rattle.model.specs.Costs.{spendingBetween};
 ghost use Rattle.answers.specs.Calls.{Puts};
 ghost use Rattle.answers.specs.Rows.{pointRow};
 ghost use Rattle.spending.specs.Asking.{IsAsked};
-ghost use Rattle.spending.specs.Budgeted.{chargeCount, HasRoom, AreFew};
+ghost use Rattle.spending.specs.Budgeted.{chargeCount, HasRoom, AreWithin, AreFew};
 ghost use Rattle.spending.specs.Charged.{AreTables};
 ghost use Rattle.spending.specs.Grained.{grained};
 
@@ -57,20 +57,49 @@ fn charged_rows(
     dated_rows(book, asked, schedule, rates, links, units, &heads, out)
 }
 
+// Whether charges and resources are at most so many.
+fn are_within(most: u64, rated: u64, charges: u64, resources: u64) -> bool
+    ensures { λ r. ⌜ (r ≡ true → AreWithin most rated charges resources) ⌝ }
+{
+    if most < charges {
+        return false;
+    }
+    resources <= rated
+}
+
 // Whether so many charges and resources are few.
 pub fn are_few(charges: u64, resources: u64) -> bool
     ensures { λ r. ⌜ (r ≡ true → AreFew charges resources) ⌝ }
 {
-    if 256 < charges {
-        return false;
-    }
-    resources <= 24
+    are_within(256, 24, charges, resources)
 }
 
-// The rows, where there are few.
-pub fn few_rows(book: &[u8], asked: Asked, schedule: &[u64], out: &mut [u64]) -> Reply
+// The rows, where there are very few.
+fn fewest_rows(book: &[u8], asked: Asked, schedule: &[u64], out: &mut [u64]) -> Reply
     requires { ⌜ IsAsked (now book) asked (now schedule) ⌝ }
-    requires { ⌜ AreFew (chargeCount (asked .opened .plan)) (asked .opened .plan .resources .count) ⌝ }
+    requires { ⌜ AreWithin 48 6 (chargeCount (asked .opened .plan)) (asked .opened .plan .resources .count) ⌝ }
+    ensures { λ r. ⌜ Puts (map pointRow (grained (asked .grain) (spendingBetween (content (now (book .entry))) (asked .from) (asked .to)))) (now (out .entry)) r (now (out .exit)) ⌝ }
+{
+    let mut rates = [0u64; 492];
+    let mut links = [0u64; 96];
+    let mut units = [0i64; 144];
+    let r = asked.opened.plan.resources.count as usize;
+    let n = (asked.opened.plan.assignments.count + asked.opened.plan.expenses.count) as usize;
+    charged_rows(
+        book,
+        asked,
+        schedule,
+        &mut rates[..r * RATE_WIDTH],
+        &mut links[..n * 2],
+        &mut units[..n * 3],
+        out,
+    )
+}
+
+// The same, where there are some more.
+fn some_rows(book: &[u8], asked: Asked, schedule: &[u64], out: &mut [u64]) -> Reply
+    requires { ⌜ IsAsked (now book) asked (now schedule) ⌝ }
+    requires { ⌜ AreWithin 256 24 (chargeCount (asked .opened .plan)) (asked .opened .plan .resources .count) ⌝ }
     ensures { λ r. ⌜ Puts (map pointRow (grained (asked .grain) (spendingBetween (content (now (book .entry))) (asked .from) (asked .to)))) (now (out .entry)) r (now (out .exit)) ⌝ }
 {
     let mut rates = [0u64; 1968];
@@ -87,6 +116,19 @@ pub fn few_rows(book: &[u8], asked: Asked, schedule: &[u64], out: &mut [u64]) ->
         &mut units[..n * 3],
         out,
     )
+}
+
+// The rows, where there are few.
+pub fn few_rows(book: &[u8], asked: Asked, schedule: &[u64], out: &mut [u64]) -> Reply
+    requires { ⌜ IsAsked (now book) asked (now schedule) ⌝ }
+    requires { ⌜ AreFew (chargeCount (asked .opened .plan)) (asked .opened .plan .resources .count) ⌝ }
+    ensures { λ r. ⌜ Puts (map pointRow (grained (asked .grain) (spendingBetween (content (now (book .entry))) (asked .from) (asked .to)))) (now (out .entry)) r (now (out .exit)) ⌝ }
+{
+    let charges = asked.opened.plan.assignments.count + asked.opened.plan.expenses.count;
+    if are_within(48, 6, charges, asked.opened.plan.resources.count) {
+        return fewest_rows(book, asked, schedule, out);
+    }
+    some_rows(book, asked, schedule, out)
 }
 
 // The rows, for as many as a book may have.

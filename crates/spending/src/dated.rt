@@ -8,18 +8,14 @@ use bydate::points::write_points;
 use bydate::sizes::fits_small;
 use calendar::all::fill_all;
 ghost use mathlib.Core.List.{map};
-ghost use mathlib.Core.Path.{_≡_};
+ghost use Prim.Native.Nat.{_*_, _≤_};
 ghost use lib.ListN.{length};
-ghost use Rattle.format.specs.Format as layout;
 ghost use Rattle.format.specs.Verdict.{content};
-ghost use Rattle.book.specs.Sections.{alikeIn};
-ghost use Rattle.model.specs.Costs.{budgetByDay, spendingBetween};
-ghost use Rattle.calendar.specs.Tables.{ShowsAll};
+ghost use Rattle.model.specs.Costs.{spendingBetween};
 ghost use Rattle.answers.specs.Calls.{Puts};
 ghost use Rattle.answers.specs.Rows.{pointRow};
-ghost use Rattle.bydate.specs.Laid.{Laid};
 ghost use Rattle.bydate.specs.Pointed.{pointsIn, Reaches};
-ghost use Rattle.bydate.specs.Sizes.{FitsSmall};
+ghost use Rattle.bydate.specs.Sizes.{datesOf, FitsSmall, IsEmpty};
 ghost use Rattle.spending.specs.Asking.{IsAsked, IsCharged};
 ghost use Rattle.spending.specs.Grained.{grained};
 
@@ -33,6 +29,77 @@ fn write_rows(asked: Asked, table: &[u64], out: &mut [u64]) -> Reply
         Grain::Day => write_points(asked.known.from, asked.from, asked.to, table, out),
         Grain::Month => write_months(asked.known.from, asked.from, asked.to, table, out),
     }
+}
+
+// The rows, by tables that are lent: of the days, and by date.
+fn rows_in(
+    book: &[u8],
+    asked: Asked,
+    schedule: &[u64],
+    rates: &[u64],
+    links: &[u64],
+    units: &[i64],
+    heads: &[u64; 500],
+    days: &mut [u8],
+    table: &mut [u64],
+    out: &mut [u64],
+) -> Reply
+    requires { ⌜ IsAsked (now book) asked (now schedule) ⌝ }
+    requires { ⌜ IsCharged (now book) asked (now rates) (now links) (now units) (now heads) ⌝ }
+    requires { ⌜ asked .opened .plan .calendars .count * datesOf (asked .known) ≤ length (now days) ⌝ }
+    requires { ⌜ IsEmpty (datesOf (asked .known)) (now table) ⌝ }
+    ensures { λ r. ⌜ Puts (map pointRow (grained (asked .grain) (spendingBetween (content (now (book .entry))) (asked .from) (asked .to)))) (now (out .entry)) r (now (out .exit)) ⌝ }
+{
+    fill_all(
+        book,
+        asked.opened.plan.calendars,
+        asked.known.from,
+        asked.known.to,
+        days,
+    );
+    lay_activities(
+        schedule,
+        rates,
+        links,
+        units,
+        heads,
+        days,
+        asked.frame,
+        table,
+    );
+    write_rows(asked, table, out)
+}
+
+// The rows of a stretch of at most 256 dates.
+fn short_rows(
+    book: &[u8],
+    asked: Asked,
+    schedule: &[u64],
+    rates: &[u64],
+    links: &[u64],
+    units: &[i64],
+    heads: &[u64; 500],
+    out: &mut [u64],
+) -> Reply
+    requires { ⌜ IsAsked (now book) asked (now schedule) ⌝ }
+    requires { ⌜ IsCharged (now book) asked (now rates) (now links) (now units) (now heads) ⌝ }
+    requires { ⌜ datesOf (asked .known) ≤ 256 ⌝ }
+    ensures { λ r. ⌜ Puts (map pointRow (grained (asked .grain) (spendingBetween (content (now (book .entry))) (asked .from) (asked .to)))) (now (out .entry)) r (now (out .exit)) ⌝ }
+{
+    let mut days = [0u8; 4096];
+    let mut table = [0u64; 512];
+    rows_in(
+        book,
+        asked,
+        schedule,
+        rates,
+        links,
+        units,
+        heads,
+        &mut days,
+        &mut table,
+        out,
+    )
 }
 
 // The rows, by small tables.
@@ -53,43 +120,22 @@ fn small_rows(
 {
     let mut days = [0u8; 8192];
     let mut table = [0u64; 4096];
-    fill_all(
+    rows_in(
         book,
-        asked.opened.plan.calendars,
-        asked.known.from,
-        asked.known.to,
-        &mut days,
-    );
-    lay_activities(
+        asked,
         schedule,
         rates,
         links,
         units,
         heads,
-        &days,
-        asked.frame,
+        &mut days,
         &mut table,
-    );
-    write_rows(asked, &table, out)
+        out,
+    )
 }
 
-// The days of the calendars, with room for as many dates and calendars as a book may have.
-fn fill_full(book: &[u8], asked: Asked, schedule: &[u64], days: &mut [u8; 584400])
-    requires { ⌜ IsAsked (now book) asked (now schedule) ⌝ }
-    ensures { λ r. ⌜ ShowsAll (alikeIn layout.calendar (now (book .entry)) (asked .opened .plan .calendars)) (asked .known .from) (asked .known .to) (now (days .exit)) ⌝ }
-    ensures { λ r. ⌜ length (now (days .exit)) ≡ 584400 ⌝ }
-{
-    fill_all(
-        book,
-        asked.opened.plan.calendars,
-        asked.known.from,
-        asked.known.to,
-        days,
-    );
-}
-
-// Lays what is charged, by a table of days for all dates of a book.
-fn lay_full(
+// The rows, by a table for all dates of a book.
+fn full_table(
     book: &[u8],
     asked: Asked,
     schedule: &[u64],
@@ -97,28 +143,29 @@ fn lay_full(
     links: &[u64],
     units: &[i64],
     heads: &[u64; 500],
-    table: &mut [u64; 73050],
-)
+    days: &mut [u8; 584400],
+    out: &mut [u64],
+) -> Reply
     requires { ⌜ IsAsked (now book) asked (now schedule) ⌝ }
     requires { ⌜ IsCharged (now book) asked (now rates) (now links) (now units) (now heads) ⌝ }
-    ensures { λ r. ⌜ Laid (asked .known .from) (budgetByDay (content (now (book .entry)))) (now (table .entry)) (now (table .exit)) ⌝ }
-    ensures { λ r. ⌜ length (now (table .exit)) ≡ 73050 ⌝ }
+    ensures { λ r. ⌜ Puts (map pointRow (grained (asked .grain) (spendingBetween (content (now (book .entry))) (asked .from) (asked .to)))) (now (out .entry)) r (now (out .exit)) ⌝ }
 {
-    let mut days = [0u8; 584400];
-    fill_full(book, asked, schedule, &mut days);
-    lay_activities(
+    let mut table = [0u64; 73050];
+    rows_in(
+        book,
+        asked,
         schedule,
         rates,
         links,
         units,
         heads,
-        &days,
-        asked.frame,
-        table,
-    );
+        days,
+        &mut table,
+        out,
+    )
 }
 
-// The rows, by tables for all dates of a book.
+// The same, with room for the days of as many calendars as a book may have.
 fn full_rows(
     book: &[u8],
     asked: Asked,
@@ -133,8 +180,8 @@ fn full_rows(
     requires { ⌜ IsCharged (now book) asked (now rates) (now links) (now units) (now heads) ⌝ }
     ensures { λ r. ⌜ Puts (map pointRow (grained (asked .grain) (spendingBetween (content (now (book .entry))) (asked .from) (asked .to)))) (now (out .entry)) r (now (out .exit)) ⌝ }
 {
-    let mut table = [0u64; 73050];
-    lay_full(
+    let mut days = [0u8; 584400];
+    full_table(
         book,
         asked,
         schedule,
@@ -142,9 +189,9 @@ fn full_rows(
         links,
         units,
         heads,
-        &mut table,
-    );
-    write_rows(asked, &table, out)
+        &mut days,
+        out,
+    )
 }
 
 // The rows, by the smallest tables by date that are enough.
@@ -162,6 +209,9 @@ pub fn dated_rows(
     requires { ⌜ IsCharged (now book) asked (now rates) (now links) (now units) (now heads) ⌝ }
     ensures { λ r. ⌜ Puts (map pointRow (grained (asked .grain) (spendingBetween (content (now (book .entry))) (asked .from) (asked .to)))) (now (out .entry)) r (now (out .exit)) ⌝ }
 {
+    if asked.known.to < asked.known.from + 256 {
+        return short_rows(book, asked, schedule, rates, links, units, heads, out);
+    }
     if fits_small(asked.opened.plan.calendars.count, asked.known) {
         return small_rows(book, asked, schedule, rates, links, units, heads, out);
     }

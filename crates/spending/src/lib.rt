@@ -13,15 +13,16 @@ use crate::asked::frame_of;
 use crate::budgets::are_few;
 use crate::budgets::few_rows;
 use crate::budgets::many_rows;
-use activities::Stretch;
 use activities::schedule::DATES;
+use activities::schedule::FEW;
 use activities::schedule::SCHEDULE_WIDTH;
 use activities::schedule::fill_schedule;
-use activities::stretches::earlier;
-use activities::stretches::later;
-use activities::stretches::stretch_of;
 use answers::Reply;
 use answers::open::Opened;
+use spans::Stretch;
+use spans::stretches::earlier;
+use spans::stretches::later;
+use spans::stretches::stretch_of;
 ghost use mathlib.Core.List.{map};
 ghost use mathlib.Core.Path.{_≡_};
 ghost use Prim.Native.Nat.{_*_};
@@ -98,8 +99,12 @@ fn rows_of(book: &[u8], opened: Opened, grain: Grain, between: Stretch, out: &mu
     if opened.plan.activities.count == 0 {
         return Reply::Accepted(0);
     }
-    let mut schedule = [0u64; 6500];
     let n = opened.plan.activities.count as usize * SCHEDULE_WIDTH;
+    if opened.plan.activities.count <= FEW as u64 {
+        let mut schedule = [0u64; 416];
+        return scheduled_rows(book, opened, grain, between, &mut schedule[..n], out);
+    }
+    let mut schedule = [0u64; 6500];
     scheduled_rows(book, opened, grain, between, &mut schedule[..n], out)
 }
 

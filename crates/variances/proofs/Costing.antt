@@ -14,7 +14,7 @@ use Rattle.book.proofs.Plan.{activities-count}
 use Rattle.model.specs.Tree.{parents}
 use Rattle.model.specs.Costs.{costOf}
 use Rattle.model.proofs.Tree.{parents-count}
-use Rattle.activities.specs.Columns.{parentNumber}
+use Rattle.spans.specs.Columns.{parentNumber}
 use Rattle.activities.proofs.Scheduling.{parents-of}
 use Rattle.tree.specs.Figures.{rolledRows, figureOf}
 use Rattle.tree.specs.Tables.{costFigures, ownCosts, rolledCosts}

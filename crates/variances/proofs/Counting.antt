@@ -15,7 +15,7 @@ use Rattle.lists.specs.Lists.{span, consIf, keep}
 use Rattle.model.specs.Calendar.{isWorking}
 use Rattle.model.specs.Variances.{workingUpTo, workingBetween}
 use Rattle.calendar.specs.Tables.{entry, Counts}
-use Rattle.activities.specs.declared.Stretch.{Stretch}
+use Rattle.spans.specs.declared.Stretch.{Stretch}
 use Rattle.variances.specs.Days.{dated, InStretch, Reaches, HasCount, Counted, countedBetween}
 
 module _ (p : ℕ → Bool) where

@@ -17,7 +17,7 @@ use Rattle.model.specs.Lookup.{noCalendar}
 use Rattle.model.specs.Calendar.{isWorking}
 use Rattle.model.specs.Variances.{workingBetween}
 use Rattle.calendar.specs.Tables.{Counts}
-use Rattle.activities.specs.declared.Stretch.{Stretch}
+use Rattle.spans.specs.declared.Stretch.{Stretch}
 use Rattle.variances.specs.Changed.{rowOf, changed, RowChanged}
 use Rattle.activities.specs.Schedule.{entryAt}
 use Rattle.variances.specs.Days.{hasLine, isUnder, dated, datedUnder, datedBy, Tables, allRows, InStretch, Reaches, countedBetween}

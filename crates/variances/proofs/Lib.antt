@@ -5,3 +5,4 @@ pub mod Dating
 pub mod Reaching
 pub mod Settling
 pub mod Varying
+pub mod Lending

@@ -7,7 +7,7 @@ use mathlib.Core.Bool.{true}
 use mathlib.Core.List.{List}
 use lib.ListN.{length, getD}
 use Rattle.format.specs.InRange.{IsDate}
-use Rattle.activities.specs.declared.Stretch.{Stretch}
+use Rattle.spans.specs.declared.Stretch.{Stretch}
 use Rattle.variances.specs.Changed.{rowOf}
 use Rattle.variances.specs.Days.{hasLine, InStretch, Reaches, Bounded, widened, AreDates, Takes, Dated}
 use Rattle.variances.proofs.Changing.{row-at}

@@ -29,7 +29,7 @@ use Rattle.lists.proofs.Spans.{span-in, span-length}
 use Rattle.flat.proofs.Tables.{flat-same, flat-map}
 use Rattle.flat.proofs.Spans.{rows-length, rows-cells}
 use Rattle.rows.specs.Rows.{numbers}
-use Rattle.activities.specs.Columns.{calendarNumber, firstDate, lastDate}
+use Rattle.spans.specs.Columns.{calendarNumber, firstDate, lastDate}
 use Rattle.activities.specs.Schedule.{scheduleOf, entryAt}
 use Rattle.activities.proofs.Scheduling.{schedule-calendar, schedule-length, calendar-at, first-at, last-at, working-at}
 use Rattle.answers.specs.Rows.{varianceRow, variancesRows}

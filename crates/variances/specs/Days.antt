@@ -13,7 +13,7 @@ use Rattle.money.specs.Words.{bits}
 use Rattle.model.specs.Lookup.{noCalendar}
 use Rattle.model.specs.Variances.{workingBetween}
 use Rattle.calendar.specs.Tables.{entry}
-use Rattle.activities.specs.declared.Stretch.{Stretch}
+use Rattle.spans.specs.declared.Stretch.{Stretch}
 use Rattle.activities.specs.Schedule.{entryAt}
 use Rattle.variances.specs.Changed.{rowOf, changed}
 

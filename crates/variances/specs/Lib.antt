@@ -1,3 +1,4 @@
 pub mod Changed
 pub mod Days
 pub mod Completion
+pub mod Lent

@@ -10,7 +10,7 @@ ghost use mathlib.Core.List.{map};
 ghost use lib.ListN.{length};
 ghost use Rattle.format.specs.Verdict.{content};
 ghost use Rattle.book.specs.Plan.{IsPlanOf};
-ghost use Rattle.activities.specs.Columns.{parentNumber};
+ghost use Rattle.spans.specs.Columns.{parentNumber};
 ghost use Rattle.activities.specs.Schedule.{scheduleOf};
 ghost use Rattle.variances.specs.Completion.{Costed};
 

@@ -1,5 +1,4 @@
 // The rows of the lines with working days instead of dates: calendar by calendar, its working dates over a stretch counted once.
-use activities::Stretch;
 use activities::schedule::CALENDAR;
 use activities::schedule::SCHEDULE_WIDTH;
 use baseline::lines::FINISH;
@@ -10,6 +9,7 @@ use book::calendars::Calendar;
 use book::calendars::read_calendar;
 use calendar::counts::fill_counts;
 use money::words::to_bits;
+use spans::Stretch;
 ghost use Prim.Native.Nat.{ℕ, _+_, _*_, _/_, _≤_, _<_};
 ghost use mathlib.Core.Path.{_≡_};
 ghost use mathlib.Core.Bool.{true, false};

@@ -2,13 +2,13 @@
 use crate::days::EARLY_FINISH;
 use crate::days::EARLY_START;
 use crate::days::count_calendars;
-use activities::Stretch;
-use activities::stretches::earlier;
-use activities::stretches::later;
 use baseline::lines::FINISH;
 use baseline::lines::LINE_WIDTH;
 use baseline::lines::START;
 use book::Section;
+use spans::Stretch;
+use spans::stretches::earlier;
+use spans::stretches::later;
 ghost use Prim.Native.Nat.{ℕ, _+_, _*_, _/_, _<_};
 ghost use mathlib.Core.Path.{_≡_};
 ghost use mathlib.Core.Bool.{true};
@@ -67,8 +67,22 @@ fn reach_all(schedule: &[u64], out: &[u64]) -> Stretch
     reach(begun, out, n, LINE_WIDTH, FINISH)
 }
 
-// Over a stretch of at most 2,048 dates.
+// Over a stretch of at most 256 dates.
 fn count_short(book: &[u8], list: Section, stretch: Stretch, schedule: &[u64], out: &mut [u64])
+    requires { ⌜ Every CalendarInRange (alikeIn layout.calendar (now book) list) ⌝ }
+    requires { ⌜ Tables (now schedule) (now out) ⌝ }
+    requires { ⌜ ((i : ℕ) → i < length (now out) / 5 → entryAt (now schedule) i 1 < list .count) ⌝ }
+    requires { ⌜ ((i : ℕ) → i < length (now out) / 5 → hasLine (rowOf 5 (now out) i) ≡ true → Reaches stretch (now schedule) i (rowOf 5 (now out) i)) ⌝ }
+    requires { ⌜ Bounded stretch × (stretch .to < stretch .from + 256) ⌝ }
+    ensures { λ r. ⌜ now (out .exit) ≡ allRows (datedBy (alikeIn layout.calendar (now (book .entry)) list) (now (schedule .entry))) (now (out .entry)) ⌝ }
+{
+    let mut days = [0u8; 256];
+    let mut counts = [0u64; 257];
+    count_calendars(book, list, stretch, schedule, &mut days, &mut counts, out);
+}
+
+// Over a stretch of at most 2,048 dates.
+fn count_medium(book: &[u8], list: Section, stretch: Stretch, schedule: &[u64], out: &mut [u64])
     requires { ⌜ Every CalendarInRange (alikeIn layout.calendar (now book) list) ⌝ }
     requires { ⌜ Tables (now schedule) (now out) ⌝ }
     requires { ⌜ ((i : ℕ) → i < length (now out) / 5 → entryAt (now schedule) i 1 < list .count) ⌝ }
@@ -95,7 +109,7 @@ fn count_long(book: &[u8], list: Section, stretch: Stretch, schedule: &[u64], ou
     count_calendars(book, list, stretch, schedule, &mut days, &mut counts, out);
 }
 
-// With the smaller tables where they do.
+// With the smallest tables that do.
 pub fn count_days(book: &[u8], list: Section, schedule: &[u64], out: &mut [u64])
     requires { ⌜ Every CalendarInRange (alikeIn layout.calendar (now book) list) ⌝ }
     requires { ⌜ Tables (now schedule) (now out) ⌝ }
@@ -104,8 +118,12 @@ pub fn count_days(book: &[u8], list: Section, schedule: &[u64], out: &mut [u64])
     ensures { λ r. ⌜ now (out .exit) ≡ allRows (datedBy (alikeIn layout.calendar (now (book .entry)) list) (now (schedule .entry))) (now (out .entry)) ⌝ }
 {
     let all = reach_all(schedule, out);
-    if all.to < all.from + 2048 {
+    if all.to < all.from + 256 {
         count_short(book, list, all, schedule, out);
+        return;
+    }
+    if all.to < all.from + 2048 {
+        count_medium(book, list, all, schedule, out);
         return;
     }
     count_long(book, list, all, schedule, out);

@@ -1,36 +1,20 @@
--- `full_table` meets its contract: the budgets are laid, and their running total is written.
+-- `full_table` meets its contract: the tables have room.
 use Prim.Native.Nat.{ℕ}
-use mathlib.Core.Path.{sym, _∙_}
+use mathlib.Core.Path.{sym}
 use native.Mathlib.Omega.{arith}
 use lib.ListN.{length-replicate}
-use Rattle.curve.proofs.Curving.{full-dates, full-days, asked-reach, asked-rows}
+use Rattle.planned.proofs.Reaching.{reach-full}
+use Rattle.bydate.proofs.Arrays.{empty-table}
+use Rattle.curve.proofs.Curving.{asked-reached, full-dates}
 use borrow.Author.Needs.{needs}
 use Rattle.curve.proofs.full_table.Statement.{statement}
 use Rattle.curve.proofs.full_table.Tie as tie
 
-table-long : tie.Need-slice-aggregate-lay-plan
+table-long : tie.Need-slice-aggregate-rows-in
 table-long c = sym (length-replicate {A = ℕ} 73050 0)
 
-lay-plan-requires : tie.Need-lay-plan-requires
-lay-plan-requires c κs = let s = c .before .before .before .before .before .pre in (s, omega (arith, full-days s, c .before .lay-plan-arg .given))
-
-laid-long : tie.Need-slice-aggregate-write-totals
-laid-long c = sym (c .before .before .lay-plan .ensures .long ∙ length-replicate {A = ℕ} 73050 0)
-
-write-totals-requires : tie.Need-write-totals-requires
-write-totals-requires c κs =
-    let t = c .before .before .before in
-    let s = t .before .before .before .before .before .before .pre in
-    asked-reach s 73050 (t .lay-plan .ensures .long ∙ length-replicate {A = ℕ} 73050 0) (omega (arith, full-dates s))
-
-same-length : tie.Need-same-length
-same-length c = search needs
-
-returns : tie.Need-returns
-returns c =
-    let t = c .before .before .before .before .before .before .before in
-    let s = t .before .before .before .before .before .before .pre in
-    asked-rows s 73050 (t .lay-plan .ensures) (omega (arith, full-dates s)) (c .before .before .before .write-totals .ensures)
+rows-in-requires : tie.Need-rows-in-requires
+rows-in-requires c κs = let s = c .before .before .before .before .before .before .pre in (s, (omega (arith, reach-full (asked-reached s), c .before .before .rows-in-arg .given), empty-table 73050 (omega (arith, full-dates s))))
 
 pub full-table-spec : {M : Type 1} → statement M
-full-table-spec = tie.close (tie.spec table-long lay-plan-requires laid-long write-totals-requires same-length returns)
+full-table-spec = tie.close (tie.spec table-long rows-in-requires (λ c. search needs) (λ c. search needs))

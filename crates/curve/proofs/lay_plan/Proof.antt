@@ -1,12 +1,13 @@
 -- `lay_plan` meets its contract: the days of the calendars, then the leaves' budgets over their spans.
 use native.Mathlib.Omega.{arith}
-use Rattle.curve.proofs.Curving.{asked-calendars, asked-tabled, asked-planned}
+use Rattle.planned.proofs.Reaching.{reach-calendars, reach-tabled}
+use Rattle.curve.proofs.Curving.{asked-reached, asked-planned}
 use borrow.Author.Needs.{needs}
 use Rattle.curve.proofs.lay_plan.Statement.{statement}
 use Rattle.curve.proofs.lay_plan.Tie as tie
 
 fill-all-requires : tie.Need-fill-all-requires
-fill-all-requires c κs = let s = c .before .before .before .before .before .pre in (s .0 .covers .most, (s .1, asked-calendars (s .0)))
+fill-all-requires c κs = let s = c .before .before .before .before .before .pre in (s .0 .covers .most, (s .1, reach-calendars (asked-reached (s .0))))
 
 add-width : tie.Need-add-width
 add-width c = omega (arith, c .before .before .before .before .before .before .before .before .before .pre .0 .covers .most)
@@ -18,7 +19,7 @@ lay-leaves-requires : tie.Need-lay-leaves-requires
 lay-leaves-requires c κs =
     let t = c .before .before .before .before .before .before in
     let s = t .before .before .before .before .before .before .pre in
-    asked-tabled (s .0) (omega (arith, s .1, t .fill-all .kept .1 .1 .1 .1 .0))
+    reach-tabled (asked-reached (s .0)) (omega (arith, s .1, t .fill-all .kept .1 .1 .1 .1 .0))
 
 same-length : tie.Need-same-length
 same-length c = search needs

@@ -2,7 +2,7 @@
 use mathlib.Core.Path.{_∙_}
 use borrow.Author.Needs.{needs}
 use Rattle.format.specs.Verdict.{content}
-use Rattle.book.proofs.Plan.{activities-count}
+use Rattle.book.proofs.Plan.{activities-count, activities-most}
 use Rattle.answers.specs.Rows.{plannedCurveRows}
 use Rattle.answers.proofs.Nothing.{no-curve}
 use Rattle.bydate.proofs.Writing.{nothing-points}
@@ -15,15 +15,25 @@ returns c =
     let s = c .before .before .before .before in
     nothing-points _ _ (no-curve (content (s .args .book .now)) (activities-count (s .pre .plan) ∙ c .if1 .taken) (s .args .from) (s .args .to))
 
-rows-among-requires : tie.Need-rows-among-requires
-rows-among-requires c κs = search needs
-
-same-length : tie.Need-same-length
-same-length c = search needs
+many-rows-requires : tie.Need-many-rows-requires
+many-rows-requires c κs = let s = c .before .before .before .before .before .before .before .pre in (s, activities-most (s .plan))
 
 returns-2 : tie.Need-returns-2
 unfolding plannedCurveRows
-returns-2 c = c .before .before .rows-among .ensures
+returns-2 c = c .before .before .few-rows .ensures
+
+returns-3 : tie.Need-returns-3
+unfolding plannedCurveRows
+returns-3 c = c .before .before .many-rows .ensures
 
 pub planned-curve-of-spec : {M : Type 1} → statement M
-planned-curve-of-spec = tie.close (tie.spec returns rows-among-requires same-length returns-2)
+planned-curve-of-spec =
+    tie.close
+    (tie.spec
+    returns
+    (λ c κs. search needs)
+    (λ c. search needs)
+    returns-2
+    many-rows-requires
+    (λ c. search needs)
+    returns-3)

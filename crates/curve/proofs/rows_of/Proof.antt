@@ -1,5 +1,6 @@
 -- `rows_of` meets its contract: the dates that are asked are narrowed to the stretch of the listed spans.
 use mathlib.Core.Path.{sym, ap, _∙_}
+use mathlib.Core.List.{List, map}
 use Prim.Native.Nat.{ℕ, _*_}
 use native.Mathlib.Omega.{arith}
 use Rattle.format.specs.Verdict.{content}
@@ -7,6 +8,10 @@ use Rattle.format.specs.InRange.{InRange}
 use Rattle.format.proofs.Theorems.{content-in-range}
 use Rattle.book.proofs.Plan.{calendars-most}
 use Rattle.baseline.proofs.Listing.{listed-long, budgets-long, listed-dated, listed-spans, listed-covers}
+use Rattle.model.specs.Planned.{plannedCurveBetween}
+use Rattle.answers.specs.declared.Reply.{Reply}
+use Rattle.answers.specs.Calls.{Puts}
+use Rattle.answers.specs.Rows.{pointRow}
 use Rattle.bydate.proofs.Writing.{nothing-points}
 use Rattle.curve.specs.Asking.{IsAsked}
 use Rattle.curve.proofs.Curving.{curve-asked, curve-nothing}
@@ -25,20 +30,11 @@ stretch-of-requires c κs =
     let w = s .pre .1 in
     ((listed-long b (w .spans) ∙ sym (ap (λ (n : ℕ). n * 3) (budgets-long b (w .budgeted))), omega arith), listed-spans (s .args .listed .now) (listed-dated b (w .spans) (range s)))
 
-later-requires : tie.Need-later-requires
-later-requires c κs = search needs
-
-earlier-requires : tie.Need-earlier-requires
-earlier-requires c κs = search needs
-
 returns : tie.Need-returns
 returns c =
     let s = c .before .before .before .before .before .before .before .before in
     nothing-points _ _
     (curve-nothing (content (s .args .book .now)) (range s) (s .pre .1) (listed-covers (s .args .listed .now) (c .before .before .before .before .stretch-of .ensures)) (s .args .between .from) (s .args .between .to) (c .before .before .before .later .ensures) (c .before .before .earlier .ensures) (c .if1 .taken))
-
-fits-small-requires : tie.Need-fits-small-requires
-fits-small-requires c κs = let k = c .before .before .before .before .stretch-of .ensures in (k .ahead, k .most, calendars-most (c .before .before .before .before .before .before .before .before .pre .0 .plan))
 
 -- what is asked, where the first date is not after the last
 asked-is : (c : tie.Else1) → let s = c .before .before .before .before .before .before .before .before in IsAsked (s .args .book .now) (record { opened = s .args .opened; known = c .before .before .before .before .stretch-of .result; from = c .before .before .before .later .result; to = c .before .before .earlier .result }) (s .args .marks .now) (s .args .listed .now) (s .args .budgets .now)
@@ -53,44 +49,47 @@ asked-is c =
       ends = omega (arith, c .before .before .earlier .ensures);
     }
 
-small-rows-requires : tie.Need-small-rows-requires
-small-rows-requires c κs = (asked-is (c .before .before .before), c .before .before .fits-small .ensures (c .before .if2 .taken))
-
-same-length : tie.Need-same-length
-same-length c = search needs
-
-returns-2 : tie.Need-returns-2
-returns-2 c =
-    let t = c .before .before .before .before .before .before .before .before in
+-- the rows between the dates that are asked are those between the dates that were given
+as-given :
+    (t : tie.After-earlier) {out after : List ℕ} {r : Reply} →
+    let s = t .before .before .before .before .before .before in
+    Puts (map pointRow (plannedCurveBetween (content (s .args .book .now)) (t .before .later .result) (t .earlier .result))) out r after →
+    Puts (map pointRow (plannedCurveBetween (content (s .args .book .now)) (s .args .between .from) (s .args .between .to))) out r after
+as-given t =
     let s = t .before .before .before .before .before .before in
     curve-asked (content (s .args .book .now)) (range s) (s .pre .1) (listed-covers (s .args .listed .now) (t .before .before .stretch-of .ensures)) (s .args .between .from) (s .args .between .to) (t .before .later .ensures) (t .earlier .ensures)
-    (c .before .before .small-rows .ensures)
+
+add-if2 : tie.Need-add-if2
+add-if2 c = let k = c .before .before .before .before .before .stretch-of .ensures in omega (arith, k .ahead, k .most)
+
+short-rows-requires : tie.Need-short-rows-requires
+short-rows-requires c κs = (asked-is (c .before .before .before .before), omega (arith, c .before .if2 .taken))
+
+fits-small-requires : tie.Need-fits-small-requires
+fits-small-requires c κs = let k = c .before .before .before .before .before .before .before .stretch-of .ensures in (k .ahead, k .most, calendars-most (c .before .before .before .before .before .before .before .before .before .before .before .pre .0 .plan))
+
+small-rows-requires : tie.Need-small-rows-requires
+small-rows-requires c κs = (asked-is (c .before .before .before .before .before .before), c .before .before .fits-small .ensures (c .before .if3 .taken))
 
 full-rows-requires : tie.Need-full-rows-requires
-full-rows-requires c κs = asked-is (c .before .before .before)
-
-same-length-2 : tie.Need-same-length-2
-same-length-2 c = search needs
-
-returns-3 : tie.Need-returns-3
-returns-3 c =
-    let t = c .before .before .before .before .before .before .before .before in
-    let s = t .before .before .before .before .before .before in
-    curve-asked (content (s .args .book .now)) (range s) (s .pre .1) (listed-covers (s .args .listed .now) (t .before .before .stretch-of .ensures)) (s .args .between .from) (s .args .between .to) (t .before .later .ensures) (t .earlier .ensures)
-    (c .before .before .full-rows .ensures)
+full-rows-requires c κs = asked-is (c .before .before .before .before .before .before)
 
 pub rows-of-spec : {M : Type 1} → statement M
 rows-of-spec =
     tie.close
     (tie.spec
     stretch-of-requires
-    later-requires
-    earlier-requires
+    (λ c κs. search needs)
+    (λ c κs. search needs)
     returns
+    add-if2
+    short-rows-requires
+    (λ c. search needs)
+    (λ c. as-given (c .before .before .before .before .before .before .before .before .before) (c .before .before .short-rows .ensures))
     fits-small-requires
     small-rows-requires
-    same-length
-    returns-2
+    (λ c. search needs)
+    (λ c. as-given (c .before .before .before .before .before .before .before .before .before .before .before) (c .before .before .small-rows .ensures))
     full-rows-requires
-    same-length-2
-    returns-3)
+    (λ c. search needs)
+    (λ c. as-given (c .before .before .before .before .before .before .before .before .before .before .before) (c .before .before .full-rows .ensures)))

@@ -10,24 +10,33 @@ use Rattle.periods.proofs.fill_periods.Tie as tie
 mul-size : tie.Need-mul-size
 mul-size c = record { fits = omega (arith, activities-most (c .before .before .pre .0 .plan)) }
 
-array-borrow-prefix-schedule : tie.Need-array-borrow-prefix-schedule
-array-borrow-prefix-schedule c = omega (arith, activities-most (c .before .before .pre .0 .plan))
+few-long : tie.Need-slice-aggregate-put-scheduled
+few-long c = sym (length-take-le _ _ (omega (arith, c .before .if1 .taken)))
 
-slice-aggregate-put-scheduled : tie.Need-slice-aggregate-put-scheduled
-slice-aggregate-put-scheduled c = sym (length-take-le _ _ (omega (arith, activities-most (c .before .before .before .pre .0 .plan))))
+few-requires : tie.Need-put-scheduled-requires
+few-requires c κs = let s = c .before .before .before .before .before .pre in (s .0, (sym (few-long (c .before)), s .1))
 
-put-scheduled-requires : tie.Need-put-scheduled-requires
-put-scheduled-requires c κs =
-    let s = c .before .before .before .before in
-    (s .pre .0, (length-take-le _ _ (omega (arith, activities-most (s .pre .0 .plan))), s .pre .1))
+many-part : tie.Need-array-borrow-prefix-schedule-2
+many-part c = omega (arith, activities-most (c .before .before .before .pre .0 .plan))
+
+many-long : tie.Need-slice-aggregate-put-scheduled-2
+many-long c = sym (length-take-le _ _ (many-part (c .before)))
+
+many-requires : tie.Need-put-scheduled-requires-2
+many-requires c κs = let s = c .before .before .before .before .before .pre in (s .0, (sym (many-long (c .before)), s .1))
 
 pub fill-periods-spec : {M : Type 1} → statement M
 fill-periods-spec =
     tie.close
     (tie.spec
     mul-size
-    array-borrow-prefix-schedule
-    slice-aggregate-put-scheduled
-    put-scheduled-requires
+    (λ c. search needs)
+    few-long
+    few-requires
+    (λ c. search needs)
+    (λ c. search needs)
+    many-part
+    many-long
+    many-requires
     (λ c. search needs)
     (λ c. search needs))

@@ -23,20 +23,20 @@ returns c =
 mul-n : tie.Need-mul-n
 mul-n c = omega (arith, activities-most (c .before .before .before .before .pre .plan))
 
-array-borrow-prefix-schedule : tie.Need-array-borrow-prefix-schedule
-array-borrow-prefix-schedule c = omega (arith, activities-most (c .before .before .before .before .pre .plan))
+few-long : tie.Need-slice-aggregate-scheduled-rows
+few-long c = front-long {A = ℕ} 416 0 _ (omega (arith, c .before .if2 .taken))
 
-slice-aggregate-scheduled-rows : tie.Need-slice-aggregate-scheduled-rows
-slice-aggregate-scheduled-rows c = front-long {A = ℕ} 6500 0 _ (omega (arith, activities-most (c .before .before .before .before .before .pre .plan)))
+few-rows-requires : tie.Need-scheduled-rows-requires
+few-rows-requires c κs = (c .before .before .before .before .before .before .before .before .pre, sym (few-long (c .before)))
 
-scheduled-rows-requires : tie.Need-scheduled-rows-requires
-scheduled-rows-requires c κs = let s = c .before .before .before .before .before .before in (s .pre, sym (front-long {A = ℕ} 6500 0 _ (omega (arith, activities-most (s .pre .plan)))))
+many-part : tie.Need-array-borrow-prefix-schedule-2
+many-part c = omega (arith, activities-most (c .before .before .before .before .before .before .pre .plan))
 
-same-length : tie.Need-same-length
-same-length c = search needs
+many-long : tie.Need-slice-aggregate-scheduled-rows-2
+many-long c = front-long {A = ℕ} 6500 0 _ (many-part (c .before))
 
-returns-2 : tie.Need-returns-2
-returns-2 c = search needs
+many-rows-requires : tie.Need-scheduled-rows-requires-2
+many-rows-requires c κs = (c .before .before .before .before .before .before .before .before .pre, sym (many-long (c .before)))
 
 pub rows-of-spec : {M : Type 1} → statement M
 rows-of-spec =
@@ -44,8 +44,13 @@ rows-of-spec =
     (tie.spec
     returns
     mul-n
-    array-borrow-prefix-schedule
-    slice-aggregate-scheduled-rows
-    scheduled-rows-requires
-    same-length
-    returns-2)
+    (λ c. search needs)
+    few-long
+    few-rows-requires
+    (λ c. search needs)
+    (λ c. search needs)
+    many-part
+    many-long
+    many-rows-requires
+    (λ c. search needs)
+    (λ c. search needs))

@@ -1,33 +1,42 @@
--- `vary_lines` meets its contract: the array has room for each activity.
+-- `vary_lines` meets its contract: the schedule, the working days, then minutes and costs.
 use borrow.Author.Needs.{needs}
-use native.Mathlib.Omega.{arith}
-use mathlib.Core.Path.{sym}
-use lib.Seq.{length-take-le}
-use Rattle.book.proofs.Plan.{activities-most}
+use Rattle.format.specs.Verdict.{content}
+use Rattle.format.proofs.Theorems.{content-in-range}
+use Rattle.variances.proofs.Varying.{lines-tables, lines-dated, calendars-ranged, lines-named, days-are}
 use Rattle.variances.proofs.vary_lines.Statement.{statement}
 use Rattle.variances.proofs.vary_lines.Tie as tie
 
-mul-size : tie.Need-mul-size
-mul-size c = record { fits = omega (arith, activities-most (c .before .before .pre .0)) }
+abbrev start : (filled : tie.After-fill-schedule) → tie.Start
+start filled = filled .before .before .before .before .before .before
 
-array-borrow-prefix-schedule : tie.Need-array-borrow-prefix-schedule
-array-borrow-prefix-schedule c = omega (arith, activities-most (c .before .before .pre .0))
+count-days-requires : tie.Need-count-days-requires
+count-days-requires c κs =
+    let filled = c .before .before .before .before in
+    let s = start filled in
+    let b = content (s .args .book .now) in
+    let e = filled .fill-schedule .ensures in
+    let f = s .pre .1 .1 in
+    (calendars-ranged (s .pre .0), (lines-tables b _ e f, (lines-named (s .pre .0) e f, lines-dated b _ e f (content-in-range (s .args .book .now) (s .pre .0 .accepted)))))
 
-slice-aggregate-vary-scheduled : tie.Need-slice-aggregate-vary-scheduled
-slice-aggregate-vary-scheduled c = sym (length-take-le _ _ (omega (arith, activities-most (c .before .before .before .pre .0))))
-
-vary-scheduled-requires : tie.Need-vary-scheduled-requires
-vary-scheduled-requires c κs =
-    let s = c .before .before .before .before in
-    (s .pre .0, (length-take-le _ _ (omega (arith, activities-most (s .pre .0))), s .pre .1))
+settle-costs-requires : tie.Need-settle-costs-requires
+settle-costs-requires c κs =
+    let counted = c .before .before .before .before .before .before .before in
+    let filled = counted .before .before .before .before .before in
+    let s = start filled in
+    let e = filled .fill-schedule .ensures in
+    let room = s .pre .1 .0 in
+    (s .pre .0, (e, ((room .forParents, room .forOwn, room .forCosts), days-are (s .pre .0) e (s .pre .1 .1) (counted .count-days .ensures))))
 
 pub vary-lines-spec : {M : Type 1} → statement M
 vary-lines-spec =
     tie.close
     (tie.spec
-    mul-size
-    array-borrow-prefix-schedule
-    slice-aggregate-vary-scheduled
-    vary-scheduled-requires
+    (λ c κs. search needs)
+    count-days-requires
+    settle-costs-requires
+    (λ c. search needs)
+    (λ c. search needs)
+    (λ c. search needs)
+    (λ c. search needs)
     (λ c. search needs)
     (λ c. search needs))

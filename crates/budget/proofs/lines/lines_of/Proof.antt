@@ -7,36 +7,56 @@ use borrow.Author.Needs.{needs}
 use Rattle.budget.proofs.lines.lines_of.Statement.{statement}
 use Rattle.budget.proofs.lines.lines_of.Tie as tie
 
-mul-schedule : tie.Need-mul-schedule
-mul-schedule c = record { fits = omega (arith, activities-most (c .before .before .pre .0 .plan)) }
+few-schedule : tie.Need-slice-aggregate-lines-in
+few-schedule c = sym (length-take-le _ _ (omega (arith, c .before .if1 .taken)))
 
-array-borrow-prefix-schedule : tie.Need-array-borrow-prefix-schedule
-array-borrow-prefix-schedule c = omega (arith, activities-most (c .before .before .pre .0 .plan))
+few-parents : tie.Need-slice-aggregate-lines-in-2
+few-parents c = sym (length-take-le _ _ (c .before .before .if1 .taken))
 
-slice-aggregate-lines-in : tie.Need-slice-aggregate-lines-in
-slice-aggregate-lines-in c = sym (length-take-le _ _ (array-borrow-prefix-schedule (c .before)))
-
-array-borrow-prefix-parents : tie.Need-array-borrow-prefix-parents
-array-borrow-prefix-parents c = activities-most (c .before .before .before .pre .0 .plan)
-
-slice-aggregate-lines-in-2 : tie.Need-slice-aggregate-lines-in-2
-slice-aggregate-lines-in-2 c = sym (length-take-le _ _ (array-borrow-prefix-parents (c .before)))
-
-lines-in-requires : tie.Need-lines-in-requires
-lines-in-requires c κs =
+few-requires : tie.Need-lines-in-requires
+few-requires c κs =
     let lent = c .before .before .before in
-    let s = lent .before .before .before .before in
-    (s .pre .0, ((sym (slice-aggregate-lines-in (lent .before)), sym (slice-aggregate-lines-in-2 lent)), s .pre .1))
+    let s = lent .before .before .before .before .before .before .pre in
+    (s .0, ((sym (few-schedule (lent .before)), sym (few-parents lent)), s .1))
+
+mul-schedule : tie.Need-mul-schedule-2
+mul-schedule c = record { fits = omega (arith, activities-most (c .before .before .before .before .pre .0 .plan)) }
+
+many-part : tie.Need-array-borrow-prefix-schedule-2
+many-part c = omega (arith, activities-most (c .before .before .before .before .pre .0 .plan))
+
+many-schedule : tie.Need-slice-aggregate-lines-in-3
+many-schedule c = sym (length-take-le _ _ (many-part (c .before)))
+
+many-part-2 : tie.Need-array-borrow-prefix-parents-2
+many-part-2 c = activities-most (c .before .before .before .before .before .pre .0 .plan)
+
+many-parents : tie.Need-slice-aggregate-lines-in-4
+many-parents c = sym (length-take-le _ _ (many-part-2 (c .before)))
+
+many-requires : tie.Need-lines-in-requires-2
+many-requires c κs =
+    let lent = c .before .before .before in
+    let s = lent .before .before .before .before .before .before .pre in
+    (s .0, ((sym (many-schedule (lent .before)), sym (many-parents lent)), s .1))
 
 pub lines-of-spec : {M : Type 1} → statement M
 lines-of-spec =
     tie.close
     (tie.spec
+    (λ c. search needs)
+    (λ c. search needs)
+    few-schedule
+    (λ c. search needs)
+    few-parents
+    few-requires
+    (λ c. search needs)
+    (λ c. search needs)
     mul-schedule
-    array-borrow-prefix-schedule
-    slice-aggregate-lines-in
-    array-borrow-prefix-parents
-    slice-aggregate-lines-in-2
-    lines-in-requires
+    many-part
+    many-schedule
+    many-part-2
+    many-parents
+    many-requires
     (λ c. search needs)
     (λ c. search needs))

@@ -1,4 +1,4 @@
--- `date_values` meets its contract: the column of planned value is as long as the book has activities.
+-- `date_values` meets its contract: the column of planned value has room for the activities, few or not.
 use Prim.Native.Nat.{_≤_}
 use native.Mathlib.Omega.{arith}
 use mathlib.Core.Path.{sym}
@@ -11,26 +11,31 @@ use Rattle.baseline.proofs.Listing.{budgets-long}
 use Rattle.earned.proofs.dated.date_values.Statement.{statement}
 use Rattle.earned.proofs.dated.date_values.Tie as tie
 
-room : (c : tie.Start) → length (c .args .budgets .now) ≤ 500
-room c = let p = c .pre .0 .plan in omega (arith, budgets-long (content (c .args .book .now)) (c .pre .1 .0 .1), activities-count p, activities-most p)
-
-array-borrow-prefix-planned : tie.Need-array-borrow-prefix-planned
-array-borrow-prefix-planned c = room (c .before .before)
-
-slice-aggregate-date-by : tie.Need-slice-aggregate-date-by
-slice-aggregate-date-by c = sym (length-take-le _ _ (room (c .before .before .before)))
+most : (s : tie.Start) → length (s .args .budgets .now) ≤ 500
+most s = let p = s .pre .0 .plan in omega (arith, budgets-long (content (s .args .book .now)) (s .pre .1 .0 .1), activities-count p, activities-most p)
 
 date-by-requires : tie.Need-date-by-requires
 date-by-requires c κs =
-    let s = c .before .before .before .before in
-    (s .pre .0, (s .pre .1 .0, (length-take-le _ _ (room s), s .pre .1 .1)))
+    let few = c .before .before in
+    let s = few .before .before .before in
+    (s .pre .0, (s .pre .1 .0, (length-take-le _ _ (few .if1 .taken), s .pre .1 .1)))
+
+date-by-requires-2 : tie.Need-date-by-requires-2
+date-by-requires-2 c κs =
+    let s = c .before .before .before .before .before in
+    (s .pre .0, (s .pre .1 .0, (length-take-le _ _ (most s), s .pre .1 .1)))
 
 pub date-values-spec : {M : Type 1} → statement M
 date-values-spec =
     tie.close
     (tie.spec
-    array-borrow-prefix-planned
-    slice-aggregate-date-by
+    (λ c. c .if1 .taken)
+    (λ c. sym (length-take-le _ _ (c .before .if1 .taken)))
     date-by-requires
+    (λ c. search needs)
+    (λ c. search needs)
+    (λ c. most (c .before .before .before))
+    (λ c. sym (length-take-le _ _ (most (c .before .before .before .before))))
+    date-by-requires-2
     (λ c. search needs)
     (λ c. search needs))

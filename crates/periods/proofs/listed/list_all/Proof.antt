@@ -1,34 +1,31 @@
--- `list_all` meets its contract: the array has room for each activity.
+-- `list_all` meets its contract: the costs, then the spans and the budgets.
 use borrow.Author.Needs.{needs}
-use native.Mathlib.Omega.{arith}
-use mathlib.Core.Path.{sym}
-use lib.Seq.{length-take-le}
-use Rattle.book.proofs.Plan.{activities-most}
+use Rattle.format.specs.Verdict.{content}
+use Rattle.periods.proofs.Made.{planned-costs}
 use Rattle.periods.proofs.listed.list_all.Statement.{statement}
 use Rattle.periods.proofs.listed.list_all.Tie as tie
 
-mul-size : tie.Need-mul-size
-mul-size c = record { fits = omega (arith, activities-most (c .before .before .before .pre .0 .plan)) }
+own-costs-requires : tie.Need-own-costs-requires
+own-costs-requires c κs =
+    let s = c .before .before .before .before in
+    (s .pre .0 .plan, (s .pre .1 .0, s .pre .1 .1 .forCosts))
 
-array-borrow-prefix-costs : tie.Need-array-borrow-prefix-costs
-array-borrow-prefix-costs c = omega (arith, activities-most (c .before .before .before .pre .0 .plan))
+list-spans-requires : tie.Need-list-spans-requires
+list-spans-requires c κs =
+    let costed = c .before .before .before .before in
+    let s = costed .before .before .before .before .before in
+    (s .pre .0, (s .pre .1 .0, (planned-costs (content (s .args .book .now)) (costed .own-costs .ensures), (s .pre .1 .1 .forListed, s .pre .1 .1 .forBudgets))))
 
-slice-aggregate-list-costed : tie.Need-slice-aggregate-list-costed
-slice-aggregate-list-costed c = sym (length-take-le _ _ (omega (arith, activities-most (c .before .before .before .before .pre .0 .plan))))
-
-list-costed-requires : tie.Need-list-costed-requires
-list-costed-requires c κs =
-    let s = c .before .before .before .before .before .before in
-    (s .pre .0, (s .pre .1 .0, (length-take-le _ _ (omega (arith, activities-most (s .pre .0 .plan))), s .pre .1 .1 .0, s .pre .1 .1 .1)))
+returns : tie.Need-returns
+returns c = let listed = c .before .before .before .list-spans .ensures in (listed .0, listed .1)
 
 pub list-all-spec : {M : Type 1} → statement M
 list-all-spec =
     tie.close
     (tie.spec
-    mul-size
-    array-borrow-prefix-costs
-    slice-aggregate-list-costed
-    list-costed-requires
+    own-costs-requires
+    list-spans-requires
     (λ c. search needs)
     (λ c. search needs)
-    (λ c. search needs))
+    (λ c. search needs)
+    returns)

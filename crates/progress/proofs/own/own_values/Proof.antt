@@ -1,4 +1,4 @@
--- `own_values` meets its contract: the tables are as long as the book has activities.
+-- `own_values` meets its contract: the tables have room for the activities, few or not.
 use Prim.Native.Nat.{_≤_}
 use native.Mathlib.Omega.{arith}
 use mathlib.Core.Path.{sym}
@@ -13,7 +13,23 @@ most s = activities-most (s .pre .0 .plan)
 
 make-own-requires : tie.Need-make-own-requires
 make-own-requires c κs =
-    let s = c .before .before .before .before .before .before .before in (
+    let few = c .before .before .before .before .before in
+    let s = few .before .before .before in (
+      s .pre .0,
+      (
+        record {
+          scheduleLong = s .pre .1 .0;
+          costsLong = length-take-le _ _ (omega (arith, few .if1 .taken));
+          listedLong = length-take-le _ _ (omega (arith, few .if1 .taken));
+          budgetsLong = length-take-le _ _ (few .if1 .taken);
+        },
+        s .pre .1 .1,
+      ),
+    )
+
+make-own-requires-2 : tie.Need-make-own-requires-2
+make-own-requires-2 c κs =
+    let s = c .before .before .before .before .before .before .before .before in (
       s .pre .0,
       (
         record {
@@ -30,15 +46,27 @@ pub own-values-spec : {M : Type 1} → statement M
 own-values-spec =
     tie.close
     (tie.spec
+    (λ c. omega (arith, c .before .if1 .taken))
+    (λ c. omega (arith, c .before .if1 .taken))
+    (λ c. sym (length-take-le _ _ (omega (arith, c .before .before .if1 .taken))))
+    (λ c. omega (arith, c .before .before .if1 .taken))
+    (λ c. omega (arith, c .before .before .if1 .taken))
+    (λ c. sym (length-take-le _ _ (omega (arith, c .before .before .before .if1 .taken))))
+    (λ c. c .before .before .before .if1 .taken)
+    (λ c. sym (length-take-le _ _ (c .before .before .before .before .if1 .taken)))
+    make-own-requires
     (λ c. search needs)
-    (λ c. omega (arith, most (c .before .before .before)))
-    (λ c. sym (length-take-le _ _ (omega (arith, most (c .before .before .before .before)))))
+    (λ c. search needs)
     (λ c. search needs)
     (λ c. omega (arith, most (c .before .before .before .before)))
+    (λ c. omega (arith, most (c .before .before .before .before)))
     (λ c. sym (length-take-le _ _ (omega (arith, most (c .before .before .before .before .before)))))
-    (λ c. most (c .before .before .before .before .before))
-    (λ c. sym (length-take-le _ _ (most (c .before .before .before .before .before .before))))
-    make-own-requires
+    (λ c. omega (arith, most (c .before .before .before .before .before)))
+    (λ c. omega (arith, most (c .before .before .before .before .before)))
+    (λ c. sym (length-take-le _ _ (omega (arith, most (c .before .before .before .before .before .before)))))
+    (λ c. most (c .before .before .before .before .before .before))
+    (λ c. sym (length-take-le _ _ (most (c .before .before .before .before .before .before .before))))
+    make-own-requires-2
     (λ c. search needs)
     (λ c. search needs)
     (λ c. search needs))

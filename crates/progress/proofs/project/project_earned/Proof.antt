@@ -1,4 +1,4 @@
--- `project_earned` meets its contract: nothing without activities, else the leaves' sums.
+-- `project_earned` meets its contract: nothing without activities, else the leaves' sums, with room for few or many.
 use Prim.Native.Nat.{_≤_}
 use native.Mathlib.Omega.{arith}
 use mathlib.Core.Path.{sym, _∙_}
@@ -20,7 +20,14 @@ returns c =
 
 add-leaves-requires : tie.Need-add-leaves-requires
 add-leaves-requires c κs =
-    let s = c .before .before .before .before in
+    let few = c .before .before in
+    let s = few .before .before .before in
+    let h = few .if2 .taken in
+    (s .pre, (length-take-le _ _ (omega arith), length-take-le _ _ (omega arith)))
+
+add-leaves-requires-2 : tie.Need-add-leaves-requires-2
+add-leaves-requires-2 c κs =
+    let s = c .before .before .before .before .before in
     let h = most s in
     (s .pre, (length-take-le _ _ (omega arith), length-take-le _ _ (omega arith)))
 
@@ -29,11 +36,19 @@ project-earned-spec =
     tie.close
     (tie.spec
     returns
-    (λ c. omega (arith, most (c .before .before)))
-    (λ c. omega (arith, most (c .before .before)))
-    (λ c. sym (length-take-le _ _ (omega (arith, most (c .before .before .before)))))
+    (λ c. omega (arith, c .if2 .taken))
+    (λ c. omega (arith, c .if2 .taken))
+    (λ c. sym (length-take-le _ _ (omega (arith, c .before .if2 .taken))))
+    (λ c. omega (arith, c .before .if2 .taken))
+    (λ c. omega (arith, c .before .if2 .taken))
+    (λ c. sym (length-take-le _ _ (omega (arith, c .before .before .if2 .taken))))
+    add-leaves-requires
+    (λ c. search needs)
     (λ c. omega (arith, most (c .before .before .before)))
     (λ c. omega (arith, most (c .before .before .before)))
     (λ c. sym (length-take-le _ _ (omega (arith, most (c .before .before .before .before)))))
-    add-leaves-requires
+    (λ c. omega (arith, most (c .before .before .before .before)))
+    (λ c. omega (arith, most (c .before .before .before .before)))
+    (λ c. sym (length-take-le _ _ (omega (arith, most (c .before .before .before .before .before)))))
+    add-leaves-requires-2
     (λ c. search needs))

@@ -31,17 +31,30 @@ returns-2 c =
 
 fill-rows-requires : tie.Need-fill-rows-requires
 fill-rows-requires c κs =
-    let test = c .before .before .before .before .before in
+    let few = c .before .before in
+    let test = few .before .before in
     let s = test .before .before .before in
-    let h = most s in
-    (s .pre, (length-take-le _ _ (omega arith), length-take-le _ _ (omega arith), length-take-le _ _ (omega arith), length-take-le _ _ (omega (arith, test .if1 .left))))
+    (s .pre, (length-take-le _ _ (omega (arith, few .if3 .taken)), length-take-le _ _ (omega (arith, test .if1 .left))))
 
 returns-3 : tie.Need-returns-3
 returns-3 c =
-    let filled = c .before .before .before .before .before in
-    let test = filled .before .before .before .before .before .before in
+    let filled = c .before .before .before in
+    let test = filled .before .before .before .before .before in
     let s = test .before .before .before in
     in-front (earnedValueRows (s .args .date) (content (s .args .book .now))) (s .args .out .now) (size s) (omega (arith, test .if1 .left)) _ (filled .fill-rows .ensures)
+
+fill-rows-requires-2 : tie.Need-fill-rows-requires-2
+fill-rows-requires-2 c κs =
+    let test = c .before .before .before .before in
+    let s = test .before .before .before in
+    (s .pre, (length-take-le _ _ (omega (arith, most s)), length-take-le _ _ (omega (arith, test .if1 .left))))
+
+returns-4 : tie.Need-returns-4
+returns-4 c =
+    let filled = c .before .before .before in
+    let test = filled .before .before .before .before .before in
+    let s = test .before .before .before in
+    in-front (earnedValueRows (s .args .date) (content (s .args .book .now))) (s .args .out .now) (size s) (omega (arith, test .if1 .left)) _ (filled .fill-rows2 .ensures)
 
 pub earned-value-of-spec : {M : Type 1} → statement M
 earned-value-of-spec =
@@ -50,17 +63,19 @@ earned-value-of-spec =
     (λ c. omega (arith, most (c .before .before)))
     returns
     returns-2
+    (λ c. omega (arith, c .if3 .taken))
+    (λ c. omega (arith, c .if3 .taken))
+    (λ c. sym (length-take-le _ _ (omega (arith, c .before .if3 .taken))))
     (λ c. search needs)
-    (λ c. omega (arith, most (c .before .before .before .before)))
-    (λ c. sym (length-take-le _ _ (omega (arith, most (c .before .before .before .before .before)))))
+    (λ c. sym (length-take-le _ _ (omega (arith, c .before .before .before .before .if1 .left))))
+    fill-rows-requires
+    (λ c. search needs)
+    returns-3
     (λ c. search needs)
     (λ c. omega (arith, most (c .before .before .before .before .before)))
     (λ c. sym (length-take-le _ _ (omega (arith, most (c .before .before .before .before .before .before)))))
     (λ c. search needs)
-    (λ c. omega (arith, most (c .before .before .before .before .before .before)))
-    (λ c. sym (length-take-le _ _ (omega (arith, most (c .before .before .before .before .before .before .before)))))
+    (λ c. sym (length-take-le _ _ (omega (arith, c .before .before .before .before .if1 .left))))
+    fill-rows-requires-2
     (λ c. search needs)
-    (λ c. sym (length-take-le _ _ (omega (arith, c .before .before .before .before .before .if1 .left))))
-    fill-rows-requires
-    (λ c. search needs)
-    returns-3)
+    returns-4)

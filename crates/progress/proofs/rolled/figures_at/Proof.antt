@@ -9,8 +9,8 @@ use Rattle.progress.proofs.rolled.figures_at.Tie as tie
 
 returns : tie.Need-returns
 returns c =
-    let made = c .before .before .before .before .before .before in
-    let s = made .before .before .before .before .before .before in
+    let made = c .before .before .before in
+    let s = made .before .before .before in
     c .earned-at .ensures ∙ rolled-read (content (s .args .book .now)) (s .args .date) (s .args .opened .plan .activities .count) (activities-count (s .pre .0 .plan)) (made .roll-values .ensures) (s .args .activity) (s .pre .1 .0)
 
 pub figures-at-spec : {M : Type 1} → statement M
@@ -19,7 +19,5 @@ figures-at-spec =
     (tie.spec
     (λ c κs. search needs)
     (λ c κs. search needs)
-    (λ c. search needs)
-    (λ c. search needs)
     (λ c. search needs)
     returns)

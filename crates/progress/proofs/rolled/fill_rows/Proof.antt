@@ -8,8 +8,8 @@ use Rattle.progress.proofs.rolled.fill_rows.Tie as tie
 returns : tie.Need-returns
 returns c =
     let put = c .before .before in
-    let made = put .before .before .before .before .before .before .before in
-    let s = made .before .before .before .before .before .before .before in
+    let made = put .before .before .before .before in
+    let s = made .before .before .before .before in
     put .put-values .ensures (content (s .args .book .now)) (s .args .date) (activities-count (s .pre .0 .plan)) (made .roll-values .ensures)
 
 pub fill-rows-spec : {M : Type 1} → statement M
@@ -18,8 +18,6 @@ fill-rows-spec =
     (tie.spec
     (λ c κs. search needs)
     (λ c κs. search needs)
-    (λ c. search needs)
-    (λ c. search needs)
     (λ c. search needs)
     (λ c. search needs)
     returns)

@@ -2,7 +2,7 @@
 use borrow.Author.Needs.{needs}
 use mathlib.Core.Path.{ap₂, _∙_}
 use Prim.Native.Nat.{ℕ}
-use Rattle.activities.specs.declared.Stretch.{Stretch}
+use Rattle.spans.specs.declared.Stretch.{Stretch}
 use Rattle.variances.proofs.Reaching.{widened-none, widened-some}
 use Rattle.variances.proofs.stretch.widen.Statement.{statement}
 use Rattle.variances.proofs.stretch.widen.Tie as tie
