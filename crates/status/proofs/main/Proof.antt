@@ -1,55 +1,43 @@
--- `main` is safe: the book is a part of what was read, and what is written a part of the text. Assumes nothing.
-use mathlib.Core.Path.{sym}
+-- `main` is safe and ends: the book is a part of what was read, and what is written is a page. Assumes nothing.
+use Prim.Native.Nat.{_-_}
+use mathlib.Core.Path.{_≡_, sym}
+use lib.ListN.{length}
 use lib.Seq.{length-take-le}
 use borrow.Author.Needs.{needs}
 use Rattle.status.proofs.main.Statement.{statement}
 use Rattle.status.proofs.main.Tie as tie
 
-slice-aggregate-read-full : tie.Need-slice-aggregate-read-full
-slice-aggregate-read-full c = search needs
+abbrev Inv-loop : tie.InvT-loop
+Inv-loop space n text₀ page₀ text page = length text ≡ 524288
 
-read-full-requires : tie.Need-read-full-requires
-read-full-requires c κs = search needs
+abbrev μ-loop : tie.MeasureT-loop
+μ-loop space n text₀ page₀ text page = 4 - page
 
-large-buffer-requires : tie.Need-large-buffer-requires
-large-buffer-requires c κs = search needs
+slice-aggregate-put-page : tie.Need-slice-aggregate-put-page Inv-loop μ-loop
+slice-aggregate-put-page c = sym (length-take-le _ _ (search needs))
 
-array-share-prefix-space : tie.Need-array-share-prefix-space
-array-share-prefix-space c = search needs
-
-slice-aggregate-print-status : tie.Need-slice-aggregate-print-status
-slice-aggregate-print-status c = search needs
-
-slice-aggregate-print-status-2 : tie.Need-slice-aggregate-print-status-2
-slice-aggregate-print-status-2 c = search needs
-
-print-status-requires : tie.Need-print-status-requires
-print-status-requires c κs = search needs
-
-array-share-prefix-text : tie.Need-array-share-prefix-text
-array-share-prefix-text c = search needs
-
-slice-aggregate-write-all : tie.Need-slice-aggregate-write-all
+slice-aggregate-write-all : tie.Need-slice-aggregate-write-all Inv-loop μ-loop
 slice-aggregate-write-all c = sym (length-take-le _ _ (search needs))
-
-write-all-requires : tie.Need-write-all-requires
-write-all-requires c κs = search needs
-
-returns : tie.Need-returns
-returns c = search needs
 
 pub main-spec : {M : Type 1} → statement M
 main-spec =
     tie.close
     (tie.spec
-    slice-aggregate-read-full
-    read-full-requires
-    large-buffer-requires
-    array-share-prefix-space
-    slice-aggregate-print-status
-    slice-aggregate-print-status-2
-    print-status-requires
-    array-share-prefix-text
+    Inv-loop
+    μ-loop
+    (λ c. search needs)
+    (λ c κs. search needs)
+    (λ c κs. search needs)
+    (λ c. search needs)
+    (λ c. search needs)
+    slice-aggregate-put-page
+    (λ c. search needs)
+    (λ c κs. search needs)
+    (λ c. search needs)
     slice-aggregate-write-all
-    write-all-requires
-    returns)
+    (λ c κs. search needs)
+    (λ c. search needs)
+    (λ c. search needs)
+    (λ c. search needs)
+    (λ c. search needs)
+    (λ c. search needs))

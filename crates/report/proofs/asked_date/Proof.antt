@@ -1,4 +1,4 @@
--- `status_date` meets its contract: what the layout's header has is the content's. Assumes nothing.
+-- `asked_date` meets its contract: what the layout's header has is the content's. Assumes nothing.
 use Prim.Native.Nat.{ℕ}
 use mathlib.Core.Path.{_≡_, sym, ap, _∙_}
 use mathlib.Core.List.{List}
@@ -9,10 +9,10 @@ use Rattle.fields.specs.declared.OptionalNumber.{OptionalNumber}
 use Rattle.fields.specs.Optional.{numberOption}
 use Rattle.book.specs.declared.layout.Layout.{Layout}
 use Rattle.book.specs.Layout.{bookOf}
-use Rattle.status.specs.Asked.{askedAt}
+use Rattle.report.specs.Status.{askedAt}
 use borrow.Author.Needs.{needs}
-use Rattle.status.proofs.status_date.Statement.{statement}
-use Rattle.status.proofs.status_date.Tie as tie
+use Rattle.report.proofs.asked_date.Statement.{statement}
+use Rattle.report.proofs.asked_date.Tie as tie
 
 -- the content's data date is what the header has
 dated :
@@ -20,15 +20,6 @@ dated :
     askedAt (content s .dataDate) ≡ askedAt (numberOption (layout .header .date))
 unfolding bookOf
 dated s layout e = ap (λ (p : Book × Pos). askedAt (p .0 .dataDate)) (sym e)
-
-read-layout-requires : tie.Need-read-layout-requires
-read-layout-requires c κs = search needs
-
-enum-known-date : tie.Need-enum-known-date
-enum-known-date c = search needs
-
-enum-told : tie.Need-enum-told
-enum-told c = search needs
 
 returns : tie.Need-returns
 returns c =
@@ -40,6 +31,6 @@ returns-2 c =
     let layout = c .before .before .before .read-layout in
     sym (dated _ (layout .result) (layout .ensures .0) ∙ ap (λ (d : OptionalNumber). askedAt (numberOption d)) (c .enum-told .given .1))
 
-pub status-date-spec : {M : Type 1} → statement M
-status-date-spec =
-    tie.close (tie.spec read-layout-requires enum-known-date enum-told returns returns-2)
+pub asked-date-spec : {M : Type 1} → statement M
+asked-date-spec =
+    tie.close (tie.spec (λ c κs. search needs) (λ c. search needs) (λ c. search needs) returns returns-2)

@@ -1,0 +1,5 @@
+pub mod Rows
+pub mod Stretches
+pub mod Calls
+pub mod Pages
+pub mod Example
