@@ -1,28 +1,51 @@
-// The inner functions under C names, for the programs that compare and time them beside the Rust. No client calls these, so
-// they say nothing of what they give: what they call does. An absent value is the least number of 64 bits.
+// The inner functions under C names, for the programs that compare and time them beside the Rust: each gives what the function
+// that it calls gives, as one number. An absent value is the least number of 64 bits.
 use dates::Date;
 use dates::Day;
 use dates::WeekdayOf;
+ghost use mathlib.Core.Bool.{cond, _||_};
+ghost use mathlib.Core.Path.{_≡_};
+ghost use lib.Dec.{eqb, ltb};
+ghost use lib.IntN.{_+ℤ_};
+ghost use mir.Syntax.{w64};
+ghost use Rattle.integer.specs.Clamp.{clamp};
+ghost use Rattle.integer.specs.Sums.{ints, sum};
+ghost use Rattle.money.specs.Scale.{pricedAt, spentOf};
+ghost use Rattle.money.specs.Shares.{shareOf};
+ghost use Rattle.floats.specs.Rounding.{wholeOf};
+ghost use Rattle.floats.specs.Figures.{ratioOf, earnedOf};
+ghost use Rattle.dates.specs.Date.{fromYmd, ymdOf, weekdayOf};
+ghost use Rattle.holidays.specs.Easter.{easterOf};
+ghost use Rattle.holidays.specs.Holiday.{isHoliday};
+ghost use Rattle.parts.specs.Numbers.{absent, numberOf, dateNumber, weekdayNumber};
 
 const NONE: i64 = -9223372036854775808;
 
 #[no_mangle]
-pub extern "C" fn parts_saturating_add(a: i64, b: i64) -> i64 {
+pub extern "C" fn parts_saturating_add(a: i64, b: i64) -> i64
+    ensures { λ r. ⌜ r ≡ clamp w64 (a +ℤ b) ⌝ }
+{
     money::sums::saturating_add(a, b)
 }
 
 #[no_mangle]
-pub extern "C" fn parts_priced(units: i64, price: i64) -> i64 {
+pub extern "C" fn parts_priced(units: i64, price: i64) -> i64
+    ensures { λ r. ⌜ r ≡ pricedAt units price ⌝ }
+{
     money::scale::priced(units, price)
 }
 
 #[no_mangle]
-pub extern "C" fn parts_spent(actual: i64, budget: i64) -> i64 {
+pub extern "C" fn parts_spent(actual: i64, budget: i64) -> i64
+    ensures { λ r. ⌜ r ≡ spentOf actual budget ⌝ }
+{
     money::scale::spent(actual, budget)
 }
 
 #[no_mangle]
-pub extern "C" fn parts_share(amount: i64, n: u64, k: u64) -> i64 {
+pub extern "C" fn parts_share(amount: i64, n: u64, k: u64) -> i64
+    ensures { λ r. ⌜ r ≡ cond (eqb n 0) absent (shareOf amount n k) ⌝ }
+{
     if n == 0 {
         return NONE;
     }
@@ -30,7 +53,9 @@ pub extern "C" fn parts_share(amount: i64, n: u64, k: u64) -> i64 {
 }
 
 #[no_mangle]
-pub extern "C" fn parts_cumulative(amount: i64, n: u64, k: u64) -> i64 {
+pub extern "C" fn parts_cumulative(amount: i64, n: u64, k: u64) -> i64
+    ensures { λ r. ⌜ r ≡ cond (eqb n 0 || ltb n k) absent (sum ints (shareOf amount n) k) ⌝ }
+{
     if n == 0 {
         return NONE;
     }
@@ -41,67 +66,95 @@ pub extern "C" fn parts_cumulative(amount: i64, n: u64, k: u64) -> i64 {
 }
 
 #[no_mangle]
-pub extern "C" fn parts_whole(x: f64) -> i64 {
+pub extern "C" fn parts_whole(x: f64) -> i64
+    ensures { λ r. ⌜ r ≡ wholeOf x ⌝ }
+{
     floats::whole(x)
 }
 
 #[no_mangle]
-pub extern "C" fn parts_ratio(a: i64, b: i64) -> f64 {
+pub extern "C" fn parts_ratio(a: i64, b: i64) -> f64
+    ensures { λ r. ⌜ r ≡ ratioOf a b .value ⌝ }
+{
     let i = floats::ratio(a, b);
     i.value
 }
 
 #[no_mangle]
-pub extern "C" fn parts_earned(budget: i64, done: f64) -> i64 {
+pub extern "C" fn parts_earned(budget: i64, done: f64) -> i64
+    ensures { λ r. ⌜ r ≡ earnedOf budget done ⌝ }
+{
     floats::earned(budget, done)
 }
 
-fn wide(z: i32) -> i64 {
+fn wide(z: i32) -> i64
+    ensures { λ r. ⌜ r ≡ z ⌝ }
+{
     z as i64
 }
 
-fn number(day: Day) -> i64 {
+fn number(day: Day) -> i64
+    ensures { λ r. ⌜ r ≡ numberOf day ⌝ }
+{
     match day {
         Day::At(days) => wide(days),
         Day::Nothing => NONE,
     }
 }
 
-#[no_mangle]
-pub extern "C" fn parts_from_ymd(year: i32, month: u32, day: u32) -> i64 {
-    number(dates::from_ymd(year, month, day))
-}
-
-// The date in one number: month and day above the year's bits.
-#[no_mangle]
-pub extern "C" fn parts_ymd(days: i32) -> i64 {
-    match dates::ymd(days) {
+// Month and day above the year.
+fn date_number(date: Date) -> i64
+    ensures { λ r. ⌜ r ≡ dateNumber date ⌝ }
+{
+    match date {
         Date::Of { year, month, day } => {
             let high = (month as u64 * 100 + day as u64) * 1048576;
-            let low = money::words::to_bits(wide(year));
-            money::words::from_bits(std::num::wrapping_add_u64(high, low))
+            high as i64 + wide(year)
         }
         Date::Nothing => NONE,
     }
 }
 
-#[no_mangle]
-pub extern "C" fn parts_weekday(days: i32) -> i64 {
-    match dates::weekday(days) {
-        WeekdayOf::On(w) => {
-            let k = w.index();
-            if k < 7 { k as i64 } else { NONE }
-        }
+fn weekday_number(weekday: WeekdayOf) -> i64
+    ensures { λ r. ⌜ r ≡ weekdayNumber weekday ⌝ }
+{
+    match weekday {
+        WeekdayOf::On(w) => w.index() as i64,
         WeekdayOf::Nothing => NONE,
     }
 }
 
 #[no_mangle]
-pub extern "C" fn parts_easter(year: i32) -> i64 {
+pub extern "C" fn parts_from_ymd(year: i32, month: u32, day: u32) -> i64
+    ensures { λ r. ⌜ r ≡ numberOf (fromYmd year month day) ⌝ }
+{
+    number(dates::from_ymd(year, month, day))
+}
+
+#[no_mangle]
+pub extern "C" fn parts_ymd(days: i32) -> i64
+    ensures { λ r. ⌜ r ≡ dateNumber (ymdOf days) ⌝ }
+{
+    date_number(dates::ymd(days))
+}
+
+#[no_mangle]
+pub extern "C" fn parts_weekday(days: i32) -> i64
+    ensures { λ r. ⌜ r ≡ weekdayNumber (weekdayOf days) ⌝ }
+{
+    weekday_number(dates::weekday(days))
+}
+
+#[no_mangle]
+pub extern "C" fn parts_easter(year: i32) -> i64
+    ensures { λ r. ⌜ r ≡ numberOf (easterOf year) ⌝ }
+{
     number(holidays::easter(year))
 }
 
 #[no_mangle]
-pub extern "C" fn parts_is_holiday(days: i32) -> u64 {
+pub extern "C" fn parts_is_holiday(days: i32) -> u64
+    ensures { λ r. ⌜ r ≡ cond (isHoliday days) 1 0 ⌝ }
+{
     if holidays::is_holiday(days) { 1 } else { 0 }
 }
