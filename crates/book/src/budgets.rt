@@ -78,6 +78,13 @@ pub fn read_budgets(book: &[u8], at: Pos, activities: u64) -> Section
     let lead = field(book, at, 0, 502, COUNT_OUT_OF_RANGE);
     let first = lead.next;
     let count = lead.value;
+    if count == 0 {
+        return Section {
+            count,
+            first,
+            next: first,
+        };
+    }
     let mut marks = [0u64; 501];
     let mut next = first;
     let mut i: u64 = 0;

@@ -215,9 +215,6 @@ fn rows_of(
     if asked.to < asked.from {
         return Reply::Accepted(0);
     }
-    if known.to < known.from + 256 {
-        return short_rows(book, asked, marks, budgets, listed, out);
-    }
     if fits_small(opened.plan.calendars.count, known) {
         return small_rows(book, asked, marks, budgets, listed, out);
     }
@@ -243,16 +240,16 @@ fn rows_by(
     rows_of(book, opened, between, &marks, budgets, listed, out)
 }
 
-// The rows between two dates, with tables for few activities.
-fn few_rows(book: &[u8], opened: Opened, between: Stretch, out: &mut [u64]) -> Reply
+// The rows between two dates, with tables for as many activities as a book may have.
+fn many_rows(book: &[u8], opened: Opened, between: Stretch, out: &mut [u64]) -> Reply
     requires { ⌜ IsOpened (now book) opened ⌝ }
-    requires { ⌜ opened .plan .activities .count ≤ 32 ⌝ }
+    requires { ⌜ opened .plan .activities .count ≤ 500 ⌝ }
     ensures { λ r. ⌜ Puts (map pointRow (plannedCurveBetween (content (now (book .entry))) (between .from) (between .to))) (now (out .entry)) r (now (out .exit)) ⌝ }
 {
-    let mut schedule = [0u64; 416];
-    let mut costs = [0i64; 96];
-    let mut listed = [0u64; 96];
-    let mut budgets = [0i64; 32];
+    let mut schedule = [0u64; 6500];
+    let mut costs = [0i64; 1500];
+    let mut listed = [0u64; 1500];
+    let mut budgets = [0i64; 500];
     let n = opened.plan.activities.count as usize;
     rows_by(
         book,
@@ -266,18 +263,67 @@ fn few_rows(book: &[u8], opened: Opened, between: Stretch, out: &mut [u64]) -> R
     )
 }
 
-// The same, with tables for as many activities as a book may have.
-fn many_rows(book: &[u8], opened: Opened, between: Stretch, out: &mut [u64]) -> Reply
+// The rows between two dates of a book of few activities: by short tables where its dates are few, else as those of any book.
+fn few_of(
+    book: &[u8],
+    opened: Opened,
+    between: Stretch,
+    marks: &[u64; 500],
+    budgets: &[i64],
+    listed: &[u64],
+    out: &mut [u64],
+) -> Reply
     requires { ⌜ IsOpened (now book) opened ⌝ }
-    requires { ⌜ opened .plan .activities .count ≤ 500 ⌝ }
+    requires { ⌜ AreLists (content (now book)) (now marks) (now listed) (now budgets) ⌝ }
     ensures { λ r. ⌜ Puts (map pointRow (plannedCurveBetween (content (now (book .entry))) (between .from) (between .to))) (now (out .entry)) r (now (out .exit)) ⌝ }
 {
-    let mut schedule = [0u64; 6500];
-    let mut costs = [0i64; 1500];
-    let mut listed = [0u64; 1500];
-    let mut budgets = [0i64; 500];
+    let known = stretch_of(listed, budgets.len(), LISTED_WIDTH, 0);
+    let asked = Asked {
+        opened,
+        known,
+        from: later(between.from, known.from),
+        to: earlier(between.to, known.to),
+    };
+    if asked.to < asked.from {
+        return Reply::Accepted(0);
+    }
+    if known.to < known.from + 256 {
+        return short_rows(book, asked, marks, budgets, listed, out);
+    }
+    many_rows(book, opened, between, out)
+}
+
+// The same, with slices to work in.
+fn few_by(
+    book: &[u8],
+    opened: Opened,
+    between: Stretch,
+    schedule: &mut [u64],
+    costs: &mut [i64],
+    listed: &mut [u64],
+    budgets: &mut [i64],
+    out: &mut [u64],
+) -> Reply
+    requires { ⌜ IsOpened (now book) opened ⌝ }
+    requires { ⌜ HasRoom (opened .plan .activities .count) (now schedule) (now costs) (now listed) (now budgets) ⌝ }
+    ensures { λ r. ⌜ Puts (map pointRow (plannedCurveBetween (content (now (book .entry))) (between .from) (between .to))) (now (out .entry)) r (now (out .exit)) ⌝ }
+{
+    let marks = fill_lists(book, opened, schedule, costs, listed, budgets);
+    few_of(book, opened, between, &marks, budgets, listed, out)
+}
+
+// The same, with tables for few activities.
+fn few_rows(book: &[u8], opened: Opened, between: Stretch, out: &mut [u64]) -> Reply
+    requires { ⌜ IsOpened (now book) opened ⌝ }
+    requires { ⌜ opened .plan .activities .count ≤ 32 ⌝ }
+    ensures { λ r. ⌜ Puts (map pointRow (plannedCurveBetween (content (now (book .entry))) (between .from) (between .to))) (now (out .entry)) r (now (out .exit)) ⌝ }
+{
+    let mut schedule = [0u64; 416];
+    let mut costs = [0i64; 96];
+    let mut listed = [0u64; 96];
+    let mut budgets = [0i64; 32];
     let n = opened.plan.activities.count as usize;
-    rows_by(
+    few_by(
         book,
         opened,
         between,

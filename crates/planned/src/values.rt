@@ -45,7 +45,7 @@ fn values_by(
 }
 
 // With a small table.
-fn small_values(
+pub fn small_values(
     book: &[u8],
     reach: Reach,
     date: u64,

@@ -6,9 +6,10 @@ use baseline::listed::LISTED_WIDTH;
 use baseline::listed::list_spans;
 use costs::own::own_costs;
 use earned::dated::date_values;
+use earned::dated::few_values;
 use earned::measured::measure;
 use tree::table::COST_WIDTH;
-ghost use Prim.Native.Nat.{_*_};
+ghost use Prim.Native.Nat.{_*_, _≤_};
 ghost use mathlib.Core.Path.{_≡_};
 ghost use lib.ListN.{length};
 ghost use Rattle.format.specs.Verdict.{content};
@@ -58,6 +59,28 @@ fn make_own(
     date_values(book, opened, date, listed, budgets, own);
 }
 
+// The same of few activities.
+fn few_own(
+    book: &[u8],
+    opened: Opened,
+    date: u64,
+    schedule: &mut [u64],
+    costs: &mut [i64],
+    listed: &mut [u64],
+    budgets: &mut [i64],
+    own: &mut [i64],
+)
+    requires { ⌜ IsOpened (now book) opened ⌝ }
+    requires { ⌜ Sized (opened .plan .activities .count) (now schedule) (now costs) (now listed) (now budgets) ⌝ }
+    requires { ⌜ (length (now own) ≡ opened .plan .activities .count * 5) × (opened .plan .activities .count ≤ 32) ⌝ }
+    ensures schedule { λ r. ⌜ now (schedule .exit) ≡ scheduleOf (content (now (book .entry))) ⌝ }
+    ensures own { λ r. ⌜ now (own .exit) ≡ ownValues (content (now (book .entry))) date ⌝ }
+{
+    fill_columns(book, opened, schedule, costs, listed, budgets);
+    measure(book, opened, schedule, costs, budgets, own);
+    few_values(book, opened, date, listed, budgets, own);
+}
+
 // The own figures, and the schedule that they are made from: small tables for few activities.
 pub fn own_values(book: &[u8], opened: Opened, date: u64, schedule: &mut [u64], own: &mut [i64])
     requires { ⌜ IsOpened (now book) opened ⌝ }
@@ -70,7 +93,7 @@ pub fn own_values(book: &[u8], opened: Opened, date: u64, schedule: &mut [u64], 
         let mut costs = [0i64; 96];
         let mut listed = [0u64; 96];
         let mut budgets = [0i64; 32];
-        make_own(
+        few_own(
             book,
             opened,
             date,

@@ -8,20 +8,20 @@ use borrow.Author.Needs.{needs}
 use Rattle.curve.proofs.few_rows.Statement.{statement}
 use Rattle.curve.proofs.few_rows.Tie as tie
 
-schedule-long : tie.Need-slice-aggregate-rows-by
+schedule-long : tie.Need-slice-aggregate-few-by
 schedule-long c = front-long {A = ℕ} 416 0 _ (omega (arith, c .before .before .before .pre .1))
 
-costs-long : tie.Need-slice-aggregate-rows-by-2
+costs-long : tie.Need-slice-aggregate-few-by-2
 costs-long c = front-long 96 (pos 0) _ (omega (arith, c .before .before .before .before .pre .1))
 
-listed-long : tie.Need-slice-aggregate-rows-by-3
+listed-long : tie.Need-slice-aggregate-few-by-3
 listed-long c = front-long {A = ℕ} 96 0 _ (omega (arith, c .before .before .before .before .before .pre .1))
 
-budgets-long : tie.Need-slice-aggregate-rows-by-4
+budgets-long : tie.Need-slice-aggregate-few-by-4
 budgets-long c = front-long 32 (pos 0) _ (c .before .before .before .before .before .before .pre .1)
 
-rows-by-requires : tie.Need-rows-by-requires
-rows-by-requires c κs = let s = c .before .before .before .before .before .before .before .pre in (s .0, lists-room 32 (s .1))
+few-by-requires : tie.Need-few-by-requires
+few-by-requires c κs = let s = c .before .before .before .before .before .before .before .pre in (s .0, lists-room 32 (s .1))
 
 pub few-rows-spec : {M : Type 1} → statement M
 few-rows-spec =
@@ -38,6 +38,6 @@ few-rows-spec =
     listed-long
     (λ c. search needs)
     budgets-long
-    rows-by-requires
+    few-by-requires
     (λ c. search needs)
     (λ c. search needs))

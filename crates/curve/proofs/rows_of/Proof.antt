@@ -59,20 +59,14 @@ as-given t =
     let s = t .before .before .before .before .before .before in
     curve-asked (content (s .args .book .now)) (range s) (s .pre .1) (listed-covers (s .args .listed .now) (t .before .before .stretch-of .ensures)) (s .args .between .from) (s .args .between .to) (t .before .later .ensures) (t .earlier .ensures)
 
-add-if2 : tie.Need-add-if2
-add-if2 c = let k = c .before .before .before .before .before .stretch-of .ensures in omega (arith, k .ahead, k .most)
-
-short-rows-requires : tie.Need-short-rows-requires
-short-rows-requires c κs = (asked-is (c .before .before .before .before), omega (arith, c .before .if2 .taken))
-
 fits-small-requires : tie.Need-fits-small-requires
-fits-small-requires c κs = let k = c .before .before .before .before .before .before .before .stretch-of .ensures in (k .ahead, k .most, calendars-most (c .before .before .before .before .before .before .before .before .before .before .before .pre .0 .plan))
+fits-small-requires c κs = let k = c .before .before .before .before .stretch-of .ensures in (k .ahead, k .most, calendars-most (c .before .before .before .before .before .before .before .before .pre .0 .plan))
 
 small-rows-requires : tie.Need-small-rows-requires
-small-rows-requires c κs = (asked-is (c .before .before .before .before .before .before), c .before .before .fits-small .ensures (c .before .if3 .taken))
+small-rows-requires c κs = (asked-is (c .before .before .before), c .before .before .fits-small .ensures (c .before .if2 .taken))
 
 full-rows-requires : tie.Need-full-rows-requires
-full-rows-requires c κs = asked-is (c .before .before .before .before .before .before)
+full-rows-requires c κs = asked-is (c .before .before .before)
 
 pub rows-of-spec : {M : Type 1} → statement M
 rows-of-spec =
@@ -82,14 +76,10 @@ rows-of-spec =
     (λ c κs. search needs)
     (λ c κs. search needs)
     returns
-    add-if2
-    short-rows-requires
-    (λ c. search needs)
-    (λ c. as-given (c .before .before .before .before .before .before .before .before .before) (c .before .before .short-rows .ensures))
     fits-small-requires
     small-rows-requires
     (λ c. search needs)
-    (λ c. as-given (c .before .before .before .before .before .before .before .before .before .before .before) (c .before .before .small-rows .ensures))
+    (λ c. as-given (c .before .before .before .before .before .before .before .before) (c .before .before .small-rows .ensures))
     full-rows-requires
     (λ c. search needs)
-    (λ c. as-given (c .before .before .before .before .before .before .before .before .before .before .before) (c .before .before .full-rows .ensures)))
+    (λ c. as-given (c .before .before .before .before .before .before .before .before) (c .before .before .full-rows .ensures)))

@@ -1,5 +1,4 @@
 -- `ask_activity` meets its contract: what is refused stays so, and one condition more is tested.
-use native.Mathlib.Omega.{arith}
 use Rattle.book.proofs.Plan.{activities-count}
 use Rattle.answers.proofs.Replies.{in-book, not-in-book, still-refused, asked-met, asked-unmet}
 use Rattle.answers.proofs.open.ask_activity.Statement.{statement}

@@ -2,7 +2,6 @@
 use mathlib.Core.Path.{refl, _∙_}
 use mir.Syntax.{w64}
 use mir.Facts.{toZ-ofZ}
-use borrow.Author.Needs.{needs}
 use borrow.Author.Tests.{ne-eqb, eq-eqb}
 use Rattle.integer.specs.Linear.{back}
 use Rattle.baseline.proofs.listed.frozen_or.Statement.{statement}

@@ -61,7 +61,7 @@ loop-again c =
     let c2 = c .before .before in
     let c3 = c2 .before in
     let l = c3 .before .before .loop in
-    let start = c3 .before .before .before .before .before in
+    let start = c3 .before .before .before .before .before .before in
     let n = start .args .activities in
     let bytes = start .args .book .now in
     let before = l .inv .0 in
@@ -75,8 +75,11 @@ loop-again c =
     let held : Small name = subst Small (sym its) (budget-small n before bytes (l .next) (start .pre)) in
     (name ∷ before, (going-more (l .inv .1 .0) (c3 .before .loop-test .taken) b, rw (c .mark-of2 .ensures) (one-marked (l .inv .1 .1) name held)))
 
-returns : tie.Need-returns Inv-loop μ-loop
-returns c = record { lead = c .before .before .field .ensures; rest = going-end (c .before .loop .inv .1 .0) (c .loop-test .left) }
+none-there : tie.Need-returns Inv-loop μ-loop
+none-there c = record { lead = c .before .field .ensures; rest = going-end (going-none _ _ _ _ _ _) (omega (arith, c .if1 .taken)) }
+
+returns : tie.Need-returns-2 Inv-loop μ-loop
+returns c = record { lead = c .before .before .before .field .ensures; rest = going-end (c .before .loop .inv .1 .0) (c .loop-test .left) }
 
 pub read-budgets-spec : {M : Type 1} → statement M
 read-budgets-spec =
@@ -85,6 +88,7 @@ read-budgets-spec =
     Inv-loop
     μ-loop
     (λ c κs. tt)
+    none-there
     loop-holds
     (λ c κs. tt)
     (λ c κs. tt)

@@ -1,4 +1,4 @@
--- `date_values` meets its contract: the column of planned value has room for the activities, few or not.
+-- `date_values` meets its contract: the column of planned value has room for the activities.
 use Prim.Native.Nat.{_≤_}
 use native.Mathlib.Omega.{arith}
 use mathlib.Core.Path.{sym}
@@ -16,26 +16,15 @@ most s = let p = s .pre .0 .plan in omega (arith, budgets-long (content (s .args
 
 date-by-requires : tie.Need-date-by-requires
 date-by-requires c κs =
-    let few = c .before .before in
-    let s = few .before .before .before in
-    (s .pre .0, (s .pre .1 .0, (length-take-le _ _ (few .if1 .taken), s .pre .1 .1)))
-
-date-by-requires-2 : tie.Need-date-by-requires-2
-date-by-requires-2 c κs =
-    let s = c .before .before .before .before .before in
+    let s = c .before .before .before .before in
     (s .pre .0, (s .pre .1 .0, (length-take-le _ _ (most s), s .pre .1 .1)))
 
 pub date-values-spec : {M : Type 1} → statement M
 date-values-spec =
     tie.close
     (tie.spec
-    (λ c. c .if1 .taken)
-    (λ c. sym (length-take-le _ _ (c .before .if1 .taken)))
+    (λ c. most (c .before .before))
+    (λ c. sym (length-take-le _ _ (most (c .before .before .before))))
     date-by-requires
-    (λ c. search needs)
-    (λ c. search needs)
-    (λ c. most (c .before .before .before))
-    (λ c. sym (length-take-le _ _ (most (c .before .before .before .before))))
-    date-by-requires-2
     (λ c. search needs)
     (λ c. search needs))
