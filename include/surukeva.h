@@ -20,7 +20,7 @@ extern "C" {
 #define SURUKEVA_VERSION_MAJOR 1
 #define SURUKEVA_VERSION_MINOR 0
 
-/* Stack that is enough for every call on every book. */
+/* Stack that is enough for every call on every book, as measured with the largest tables (docs/BENCHMARKS.md). */
 #define SURUKEVA_STACK 2097152
 
 /* What a call returns. */
