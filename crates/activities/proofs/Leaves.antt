@@ -13,7 +13,7 @@ use Rattle.format.specs.InRange.{Every, InRange}
 use Rattle.format.specs.Book.{Activity, Book}
 use Rattle.format.specs.Format as layout
 use Rattle.lists.specs.Lists.{any}
-use Rattle.book.specs.Sections.{markOf}
+use Rattle.sections.specs.Sections.{markOf}
 use Rattle.activities.specs.Leaves.{isParent, leafMark}
 use Rattle.model.specs.Tree.{parents, names, isLeaf}
 use Rattle.tree.specs.Figures.{indexOf, parentsOf, MarksLeaves}

@@ -11,7 +11,7 @@ use lib.Seq.{drop-cons, getD-set-same, getD-set-other}
 use borrow.Author.Tests.{eqb-true, eqb-false}
 use Rattle.format.specs.Book.{Activity, Book}
 use Rattle.format.specs.Format.{names}
-use Rattle.book.specs.Sections.{markOf}
+use Rattle.sections.specs.Sections.{markOf}
 use Rattle.activities.specs.Leaves.{isParent, leafMark}
 use Rattle.model.specs.Lookup.{noActivity}
 use Rattle.model.specs.Tree.{parents}

@@ -1,5 +1,5 @@
 // The assignments: what each costs over its activity's days, charged to the row of its activity.
-use book::Section;
+use sections::Section;
 use spans::Stretch;
 
 pub mod calendars;

@@ -20,10 +20,10 @@ use Rattle.money.specs.declared.costs.Cost.{Cost}
 use Rattle.money.specs.Words.{ofBits}
 use Rattle.money.proofs.Bits.{there-and-back}
 use Rattle.fields.specs.declared.OptionalNumber.{OptionalNumber}
-use Rattle.book.specs.declared.Section.{Section}
+use Rattle.sections.specs.declared.Section.{Section}
 use Rattle.book.specs.declared.layout.Plan.{Plan}
 use Rattle.book.specs.declared.layout.Baseline.{Baseline}
-use Rattle.book.specs.Sections.{alikeIn}
+use Rattle.sections.specs.Sections.{alikeIn}
 use Rattle.book.specs.Layout.{linesOf}
 use Rattle.book.specs.Plan.{IsPlanOf, IsBaselineOf}
 use Rattle.book.proofs.Plan.{activities-count, lines-in-range}
@@ -42,6 +42,8 @@ use Rattle.lists.proofs.Lists.{map-same}
 use Rattle.model.proofs.Costs.{leaf-cost}
 use Rattle.flat.proofs.Tables.{flat-same}
 use Rattle.tree.specs.Figures.{figureOf, MarksLeaves}
+use Rattle.tree.specs.Tables.{ownCosts}
+use Rattle.tree.proofs.Figured.{own-cost-at}
 use Rattle.flat.proofs.Spans.{rows-length, rows-at}
 use Rattle.spans.specs.declared.Stretch.{Stretch}
 use Rattle.spans.specs.Columns.{calendarNumber, firstDate, lastDate, daysIn}
@@ -50,7 +52,7 @@ use Rattle.spans.specs.Stretches.{DatedSpans, CoversSpans}
 use Rattle.spans.proofs.Days.{date-days}
 use Rattle.activities.proofs.Scheduling.{calendar-at, first-at, last-at}
 use Rattle.baseline.specs.Lines.{lineBy, lineRow, linesTable, IsLines}
-use Rattle.baseline.specs.Listed.{byLine, startOf, finishOf, listedFirst, listedLast, listedRow, listedOf, firstAt, lastAt, numberAt, ifLeaf, ofLeaf, budgetsOf, PlannedCosts}
+use Rattle.baseline.specs.Listed.{byLine, startOf, finishOf, listedFirst, listedLast, listedRow, listedOf, firstAt, lastAt, numberAt, ifLeaf, ofLeaf, budgetsOf}
 
 -- ---- lines in range
 
@@ -145,11 +147,15 @@ module _ (b : Book) where
 
   -- ---- the budgets, from the marks of the parents, the lines and the planned costs
 
-  module _ (r : InRange b) (marks : List ℕ) {lines : List ℕ} {costs : List ℤ} (m : MarksLeaves marks (parents b)) (t : lines ≡ linesTable false b) (p : PlannedCosts b costs) where
+  module _ (r : InRange b) (marks : List ℕ) {lines : List ℕ} {costs : List ℤ} (m : MarksLeaves marks (parents b)) (t : lines ≡ linesTable false b) (p : costs ≡ ownCosts b) where
+    -- the planned cost stands first
+    first-cost : (i : ℕ) → i < length (b .activities) → figureOf costs (i * 3) ≡ ownCost b i .budget
+    first-cost i h = let z : i * 3 ≡ i * 3 + 0 = omega arith in ap (figureOf costs) z ∙ own-cost-at b p i 0 h (omega arith)
+
     budget-is : (i : ℕ) → i < length (b .activities) → budgetIn marks lines costs i ≡ ofLeaf b (budgetOf b) i
-    unfolding budgetOf ownCost
+    unfolding budgetOf
     budget-is i h =
-        rw (m i (omega (arith, parents-count b)), line-marked false t i h, lined-at false t i 4 h (omega arith), p .at i h)
+        rw (m i (omega (arith, parents-count b)), line-marked false t i h, lined-at false t i 4 h (omega arith), first-cost i h)
         (go (isLeaf (parents b) i) (leaf-cost b i) (lineOf b i) (line-range r false i))
       where
         go :

@@ -12,8 +12,8 @@ use Rattle.format.specs.Book.{BaselineLine, Book}
 use Rattle.format.specs.Format as layout
 use Rattle.format.specs.Verdict.{content}
 use Rattle.money.specs.Words.{bits}
-use Rattle.book.specs.declared.Section.{Section}
-use Rattle.book.specs.Sections.{alikeIn}
+use Rattle.sections.specs.declared.Section.{Section}
+use Rattle.sections.specs.Sections.{alikeIn}
 use Rattle.model.specs.Tree.{parents, indices}
 use Rattle.model.specs.Planned.{lineOf}
 use Rattle.model.specs.Variances.{lastLine}

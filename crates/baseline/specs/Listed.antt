@@ -1,18 +1,14 @@
 -- What planned value is made of: of each activity the span of its listed days and its calendar, as three numbers, row after row, and the budgets of the leaves.
-use Prim.Native.Nat.{ℕ, _+_, _*_, _<_}
-use mathlib.Core.Path.{_≡_}
+use Prim.Native.Nat.{ℕ, _+_, _*_}
 use mathlib.Core.Bool.{cond}
 use mathlib.Core.List.{List, [], _∷_, map, flatMap}
 use mathlib.Core.Option.{Option, none, some}
 use lib.Dec.{eqb}
 use lib.IntN.{ℤ, pos}
-use lib.ListN.{length, getD}
+use lib.ListN.{getD}
 use Rattle.format.specs.Book.{BaselineLine, Book}
-use Rattle.model.specs.declared.Way.the-variants.{Planned}
 use Rattle.model.specs.Lookup.{activityAt}
-use Rattle.model.specs.Amounts.{saturatedSum}
 use Rattle.model.specs.Tree.{parents, indices, isLeaf}
-use Rattle.model.specs.Costs.{byDay}
 use Rattle.model.specs.Planned.{lineOf, budgetOf}
 use Rattle.spans.specs.Columns.{calendarNumber}
 
@@ -65,8 +61,3 @@ ofLeaf book f i = cond (isLeaf (parents book) i) (f i) (pos 0)
 
 unfoldable pub budgetsOf : Book → List ℤ
 budgetsOf book = map (ofLeaf book (budgetOf book)) (indices (parents book))
-
--- the planned costs of the activities, the first of three figures of each
-pub record PlannedCosts (book : Book) (costs : List ℤ) : Type 0 where
-  pub long : length costs ≡ length (book .activities) * 3
-  pub at : (i : ℕ) → i < length (book .activities) → getD costs (i * 3) (pos 0) ≡ saturatedSum (byDay book Planned i)

@@ -1,9 +1,9 @@
 // The lines of the baseline: of each activity the one that counts, as five numbers.
-use book::Section;
 use book::layout::Baseline;
 use money::words::to_bits;
 use records::activities::BaselineLine;
 use records::activities::read_baseline_line;
+use sections::Section;
 ghost use Prim.Native.Nat.{ℕ, _+_, _*_, _<_};
 ghost use mathlib.Core.Path.{_≡_};
 ghost use mathlib.Core.List.{List, []};
@@ -12,7 +12,7 @@ ghost use lib.ListN.{length};
 ghost use Rattle.format.specs.Format as layout;
 ghost use Rattle.format.specs.Verdict.{content};
 ghost use Rattle.records.specs.Decoded.{baselineLineOf};
-ghost use Rattle.book.specs.Sections.{alikeIn};
+ghost use Rattle.sections.specs.Sections.{alikeIn};
 ghost use Rattle.book.specs.Layout.{linesOf};
 ghost use Rattle.baseline.specs.Lines as table;
 

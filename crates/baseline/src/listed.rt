@@ -6,8 +6,8 @@ use activities::schedule::FEW;
 use activities::schedule::SCHEDULE_WIDTH;
 use activities::schedule::parent_marks;
 use answers::open::Opened;
-use book::Section;
 use money::words::from_bits;
+use sections::Section;
 use tree::table::COST_WIDTH;
 ghost use Prim.Native.Nat.{_*_, _≤_};
 ghost use mathlib.Core.Path.{_≡_};
@@ -18,10 +18,11 @@ ghost use Rattle.format.specs.Book.{Book};
 ghost use Rattle.format.specs.InRange.{InRange};
 ghost use Rattle.format.specs.Verdict.{content};
 ghost use Rattle.money.specs.Words.{ofBits};
+ghost use Rattle.tree.specs.Tables.{ownCosts};
 ghost use Rattle.activities.specs.Schedule.{scheduleOf};
 ghost use Rattle.answers.specs.Opened.{IsOpened};
 ghost use Rattle.baseline.specs.Lines.{linesTable, Zeros, IsLines};
-ghost use Rattle.baseline.specs.Listed.{listedOf, ifLeaf, budgetsOf, PlannedCosts};
+ghost use Rattle.baseline.specs.Listed.{listedOf, ifLeaf, budgetsOf};
 
 // The numbers of an activity: the first date, the last, the calendar.
 pub const LISTED_WIDTH: usize = 3;
@@ -67,10 +68,10 @@ fn fill_spans(schedule: &[u64], lines: &[u64], n: usize, out: &mut [u64])
     }
 }
 
-// The budgets, from the marks of the parents, the table of the first lines and the planned costs.
+// The budgets, from the marks of the parents, the table of the first lines and the own costs.
 fn fill_budgets(schedule: &[u64], lines: &[u64], costs: &[i64], out: &mut [i64])
     requires { ⌜ (length (now schedule) ≡ length (now out) * 13) × (length (now lines) ≡ length (now out) * 5) × (length (now costs) ≡ length (now out) * 3) × (length (now out) ≤ 500) ⌝ }
-    ensures { λ r. ⌜ ((book : Book) → InRange book → now (schedule .entry) ≡ scheduleOf book → now (lines .entry) ≡ linesTable false book → PlannedCosts book (now (costs .entry)) → now (out .exit) ≡ budgetsOf book) ⌝ }
+    ensures { λ r. ⌜ ((book : Book) → InRange book → now (schedule .entry) ≡ scheduleOf book → now (lines .entry) ≡ linesTable false book → now (costs .entry) ≡ ownCosts book → now (out .exit) ≡ budgetsOf book) ⌝ }
 {
     let parents = parent_marks(schedule);
     let mut i = 0;
@@ -94,7 +95,7 @@ fn list_by(
 )
     requires { ⌜ IsLines (now book) list (length (now budgets)) × InRange (content (now book)) × (length (now budgets) ≤ 500) ⌝ }
     requires { ⌜ now schedule ≡ scheduleOf (content (now book)) ⌝ }
-    requires { ⌜ PlannedCosts (content (now book)) (now costs) ⌝ }
+    requires { ⌜ now costs ≡ ownCosts (content (now book)) ⌝ }
     requires { ⌜ (length (now lines) ≡ length (now budgets) * 5) × Zeros (now lines) × (length (now listed) ≡ length (now budgets) * 3) ⌝ }
     ensures listed { λ r. ⌜ now (listed .exit) ≡ listedOf (content (now (book .entry))) ⌝ }
     ensures budgets { λ r. ⌜ now (budgets .exit) ≡ budgetsOf (content (now (book .entry))) ⌝ }
@@ -116,7 +117,7 @@ pub fn list_spans(
 )
     requires { ⌜ IsOpened (now book) opened ⌝ }
     requires { ⌜ now schedule ≡ scheduleOf (content (now book)) ⌝ }
-    requires { ⌜ PlannedCosts (content (now book)) (now costs) ⌝ }
+    requires { ⌜ now costs ≡ ownCosts (content (now book)) ⌝ }
     requires { ⌜ (length (now listed) ≡ opened .plan .activities .count * 3) × (length (now budgets) ≡ opened .plan .activities .count) ⌝ }
     ensures listed { λ r. ⌜ now (listed .exit) ≡ listedOf (content (now (book .entry))) ⌝ }
     ensures budgets { λ r. ⌜ now (budgets .exit) ≡ budgetsOf (content (now (book .entry))) ⌝ }

@@ -1,6 +1,2 @@
-pub mod Lists
-pub mod Filled
-pub mod Limits
-pub mod Marks
 pub mod Whole
 pub mod Plan

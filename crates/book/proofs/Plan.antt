@@ -15,11 +15,11 @@ use Rattle.format.specs.InRange.{Every, ActivityInRange, AssignmentInRange, Exp
 use Rattle.format.proofs.Walks.{times-length}
 use Rattle.format.proofs.Theorems.{verdict-accepts, content-limits, content-in-range}
 use Rattle.fields.specs.declared.OptionalNumber.{OptionalNumber}
-use Rattle.book.specs.declared.Section.{Section}
+use Rattle.sections.specs.declared.Section.{Section}
 use Rattle.book.specs.declared.layout.Plan.{Plan}
 use Rattle.book.specs.declared.layout.Ledger.{Ledger}
 use Rattle.book.specs.declared.layout.Layout.{Layout}
-use Rattle.book.specs.Sections.{elements, alikeIn}
+use Rattle.sections.specs.Sections.{elements, alikeIn}
 use Rattle.book.specs.Layout.{IsLayout, bookOf}
 use Rattle.book.specs.Plan.{Placed, IsPlanOf, IsBaselineOf, IsLedgerOf}
 use Rattle.book.proofs.Whole.{layout-book}

@@ -11,7 +11,7 @@ use Rattle.format.specs.Verdict.{begin, end, content, verdict}
 use Rattle.records.proofs.Parts.{iso-read}
 use Rattle.book.specs.declared.layout.Layout.{Layout}
 use Rattle.book.specs.Layout.{IsLayout, bookOf}
-use Rattle.book.proofs.Lists.{list-read, up-to-read, counted-read}
+use Rattle.sections.proofs.Lists.{list-read, up-to-read, counted-read}
 
 -- one, then another
 then-read :

@@ -17,7 +17,7 @@ use Rattle.book.specs.declared.layout.Plan.{Plan}
 use Rattle.book.specs.declared.layout.Baseline.{Baseline}
 use Rattle.book.specs.declared.layout.Ledger.{Ledger}
 use Rattle.book.specs.declared.layout.Layout.{Layout}
-use Rattle.book.specs.Sections.{IsList, IsAlike, elements, alikeIn}
+use Rattle.sections.specs.Sections.{IsList, IsAlike, elements, alikeIn}
 
 -- ---- where the lists are: each begins where the one before it ends
 

@@ -1,4 +1,2 @@
-pub mod Sections
-pub mod Elements
 pub mod Layout
 pub mod Plan

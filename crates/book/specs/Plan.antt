@@ -9,11 +9,11 @@ use Rattle.format.specs.Format as layout
 use Rattle.format.specs.Verdict.{content, Accepted}
 use Rattle.fields.specs.declared.OptionalNumber.{OptionalNumber}
 use Rattle.fields.specs.Optional.{numberOption}
-use Rattle.book.specs.declared.Section.{Section}
+use Rattle.sections.specs.declared.Section.{Section}
 use Rattle.book.specs.declared.layout.Plan.{Plan}
 use Rattle.book.specs.declared.layout.Baseline.{Baseline}
 use Rattle.book.specs.declared.layout.Ledger.{Ledger}
-use Rattle.book.specs.Sections.{elements, alikeIn}
+use Rattle.sections.specs.Sections.{elements, alikeIn}
 use Rattle.book.specs.Layout.{linesOf}
 
 -- xs are the elements of a list of the book

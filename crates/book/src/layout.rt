@@ -1,10 +1,4 @@
 // The layout of the whole book, and the verdict on it.
-use crate::Section;
-use crate::budgets::read_amounts;
-use crate::budgets::read_budgets;
-use crate::elements::Element;
-use crate::elements::read_activities;
-use crate::elements::read_elements;
 use fields::OptionalNumber;
 use fields::enumerations::forecast_of;
 use fields::kinds::field;
@@ -17,6 +11,12 @@ use format::EvTechnique;
 use format::OUT_OF_RANGE;
 use format::Pos;
 use records::techniques::read_technique;
+use sections::Section;
+use sections::budgets::read_amounts;
+use sections::budgets::read_budgets;
+use sections::elements::Element;
+use sections::elements::read_activities;
+use sections::elements::read_elements;
 ghost use mathlib.Core.Path.{_≡_};
 ghost use Prim.Native.Nat.{_≤_};
 ghost use Rattle.format.specs.declared.Pos.{Pos};

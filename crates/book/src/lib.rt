@@ -1,15 +1,2 @@
-// The book: its lists, where each begins and ends, its layout, and the verdict on it.
-use format::Pos;
-
-pub mod budgets;
-pub mod calendars;
-pub mod elements;
+// The book: where each of its lists begins and ends, its layout, and the verdict on it.
 pub mod layout;
-pub mod resources;
-
-// A list: the count that leads it, where its first element begins, and where reading goes on after its last.
-pub struct Section {
-    pub count: u64,
-    pub first: Pos,
-    pub next: Pos,
-}

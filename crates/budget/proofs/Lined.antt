@@ -13,8 +13,9 @@ use Rattle.money.specs.Costs.{sumOf}
 use Rattle.model.specs.Costs.{costOf, noCost, projectCost}
 use Rattle.model.specs.Budgets.{BudgetLine, lineAccounts, depthOf, lineFor, budgetLines}
 use Rattle.tree.specs.Figures.{parentsOf, figureOf}
-use Rattle.tree.specs.Tables.{costFigures, rolledCosts}
-use Rattle.flat.proofs.Spans.{rows-length, rows-at}
+use Rattle.tree.specs.Tables.{rolledCosts}
+use Rattle.model.proofs.Tree.{parents-count}
+use Rattle.tree.proofs.Figured.{rolled-at}
 use Rattle.flat.proofs.Tables.{flat-map}
 use Rattle.rows.specs.Rows.{numbers}
 use Rattle.answers.specs.Rows.{budgetRow, budgetRows}
@@ -27,16 +28,9 @@ use Rattle.ledger.proofs.Lined.{lines-are}
 module _ (book : Book) where
   -- the planned cost of activity i, with those below it
   pub scheduled-at : {costs : List ℤ} → costs ≡ rolledCosts book → (i : ℕ) → i < length (parents book) → figureOf costs (i * 3) ≡ costOf book i .budget
-  unfolding rolledCosts
-  scheduled-at e i h =
+  scheduled-at {costs} e i h =
       let z : i * 3 ≡ i * 3 + 0 = omega arith in
-      ap (λ (t : List ℤ). figureOf t (i * 3)) e
-      ∙ ap (figureOf (rolledCosts book)) z
-      ∙ rows-at 3 (λ (i : ℕ). costFigures (costOf book i)) (λ i. refl) (length (parents book)) i 0 (pos 0) h (omega arith)
-
-  pub costs-length : {costs : List ℤ} → costs ≡ rolledCosts book → length costs ≡ length (parents book) * 3
-  unfolding rolledCosts
-  costs-length e = ap length e ∙ rows-length 3 (λ (i : ℕ). costFigures (costOf book i)) (λ i. refl) (length (parents book))
+      ap (figureOf costs) z ∙ rolled-at book e i 0 (omega (arith, parents-count book)) (omega arith)
 
   -- as many as are marked, and the project's
   pub lines-count : (marks : List ℕ) (n : ℕ) → n ≡ length (parents book) → MarksLines marks book → length (budgetLines book) ≡ length (markedOf marks n) + 1

@@ -14,22 +14,25 @@ ghost use Rattle.format.specs.Verdict.{content};
 ghost use Rattle.answers.specs.Opened.{IsOpened};
 ghost use Rattle.answers.specs.Rows.{budgetRows, fundingRows};
 ghost use Rattle.answers.specs.Calls.{Puts};
-ghost use Rattle.ledger.specs.Accounts.{booked};
 
 mod lines;
 mod project;
 mod scheduled;
 
 // A book without activities has the project's line alone.
-fn put_alone(book: &[u8], opened: Opened, accounts: &[i64; 3006], out: &mut [u64]) -> Reply
+fn put_alone(book: &[u8], opened: Opened, out: &mut [u64]) -> Reply
     requires { ⌜ IsOpened (now book) opened ⌝ }
-    requires { ⌜ (opened .plan .activities .count ≡ 0) × (now accounts ≡ booked (content (now book))) ⌝ }
+    requires { ⌜ opened .plan .activities .count ≡ 0 ⌝ }
     ensures { λ r. ⌜ Puts (budgetRows (content (now (book .entry)))) (now (out .entry)) r (now (out .exit)) ⌝ }
 {
     if out.len() < 10 {
         return Reply::Refused(TOO_SHORT, 0);
     }
-    put_project(0, accounts, &mut out[..10]);
+    let mut accounts = [0i64; 3006];
+    let mut marks = [0u64; 501];
+    let activities = opened.plan.activities.count;
+    take_ledger(book, activities, opened.ledger, &mut accounts, &mut marks);
+    put_project(0, &accounts, &mut out[..10]);
     Reply::Accepted(1)
 }
 
@@ -38,14 +41,10 @@ pub fn budget_of(book: &[u8], opened: Opened, out: &mut [u64]) -> Reply
     requires { ⌜ IsOpened (now book) opened ⌝ }
     ensures { λ r. ⌜ Puts (budgetRows (content (now (book .entry)))) (now (out .entry)) r (now (out .exit)) ⌝ }
 {
-    let mut accounts = [0i64; 3006];
-    let mut marks = [0u64; 501];
-    let activities = opened.plan.activities.count;
-    take_ledger(book, activities, opened.ledger, &mut accounts, &mut marks);
-    if activities == 0 {
-        return put_alone(book, opened, &accounts, out);
+    if opened.plan.activities.count == 0 {
+        return put_alone(book, opened, out);
     }
-    lines_of(book, opened, &mut accounts, &mut marks, out)
+    lines_of(book, opened, out)
 }
 
 // One row, where it fits: what the sources give, and what of the project's current budget they do not cover.

@@ -11,12 +11,13 @@ use answers::open::Opened;
 use ledger::hand_up;
 use ledger::lines::put_lines;
 use ledger::marks::count_marked;
+use ledger::take_ledger;
 use tree::table::COST_WIDTH;
 ghost use mathlib.Core.Path.{_≡_};
 ghost use mathlib.Core.List.{map};
-ghost use Prim.Native.Nat.{ℕ, _*_, _≤_, _<_};
-ghost use lib.ListN.{length, getD};
-ghost use Rattle.format.specs.Book.{Book};
+ghost use Prim.Native.Nat.{_*_, _≤_};
+ghost use lib.IntN.{pos};
+ghost use lib.ListN.{length, replicate};
 ghost use Rattle.format.specs.Verdict.{content};
 ghost use Rattle.model.specs.Budgets.{budgetLines};
 ghost use Rattle.rows.specs.Rows.{numbers};
@@ -25,9 +26,9 @@ ghost use Rattle.activities.specs.Schedule.{scheduleOf};
 ghost use Rattle.answers.specs.Opened.{IsOpened};
 ghost use Rattle.answers.specs.Rows.{budgetRows};
 ghost use Rattle.answers.specs.Calls.{Puts};
-ghost use Rattle.ledger.specs.Arguments.{AreParents, IsBooked, IsHanded};
+ghost use Rattle.ledger.specs.Arguments.{IsHanded};
 
-// All of them. `own` and `costs` are for what is scheduled.
+// All of them. `costs` is for what is scheduled.
 fn put_in(
     book: &[u8],
     opened: Opened,
@@ -35,67 +36,18 @@ fn put_in(
     parents: &[u64],
     accounts: &[i64; 3006],
     marks: &[u64; 501],
-    own: &mut [i64],
     costs: &mut [i64],
     out: &mut [u64],
 )
     requires { ⌜ IsOpened (now book) opened ⌝ }
     requires { ⌜ (now schedule ≡ scheduleOf (content (now book))) × (now parents ≡ map parentNumber (content (now book) .activities)) ⌝ }
     requires { ⌜ IsHanded (content (now book)) (now accounts) (now marks) ⌝ }
-    requires { ⌜ (length (now own) ≡ opened .plan .activities .count * 3) × (length (now costs) ≡ opened .plan .activities .count * 3) ⌝ }
+    requires { ⌜ length (now costs) ≡ opened .plan .activities .count * 3 ⌝ }
     requires { ⌜ length (now out) ≡ length (budgetLines (content (now book))) * 10 ⌝ }
     ensures { λ r. ⌜ now (out .exit) ≡ numbers (budgetRows (content (now (book .entry)))) ⌝ }
 {
-    let whole = scheduled(book, opened, schedule, parents, own, costs);
+    let whole = scheduled(book, opened, schedule, costs);
     put_lines(whole, parents, costs, marks, accounts, out);
-}
-
-// The same, with memory of its own.
-fn put_all(
-    book: &[u8],
-    opened: Opened,
-    schedule: &[u64],
-    parents: &[u64],
-    accounts: &[i64; 3006],
-    marks: &[u64; 501],
-    out: &mut [u64],
-)
-    requires { ⌜ IsOpened (now book) opened ⌝ }
-    requires { ⌜ (now schedule ≡ scheduleOf (content (now book))) × (now parents ≡ map parentNumber (content (now book) .activities)) ⌝ }
-    requires { ⌜ IsHanded (content (now book)) (now accounts) (now marks) ⌝ }
-    requires { ⌜ length (now out) ≡ length (budgetLines (content (now book))) * 10 ⌝ }
-    ensures { λ r. ⌜ now (out .exit) ≡ numbers (budgetRows (content (now (book .entry)))) ⌝ }
-{
-    let n = opened.plan.activities.count as usize * COST_WIDTH;
-    if opened.plan.activities.count <= FEW as u64 {
-        let mut own = [0i64; 96];
-        let mut costs = [0i64; 96];
-        put_in(
-            book,
-            opened,
-            schedule,
-            parents,
-            accounts,
-            marks,
-            &mut own[..n],
-            &mut costs[..n],
-            out,
-        );
-        return;
-    }
-    let mut own = [0i64; 1500];
-    let mut costs = [0i64; 1500];
-    put_in(
-        book,
-        opened,
-        schedule,
-        parents,
-        accounts,
-        marks,
-        &mut own[..n],
-        &mut costs[..n],
-        out,
-    );
 }
 
 // What is read of the activities: their schedule, and their parents from it.
@@ -110,90 +62,96 @@ fn read_activities(book: &[u8], opened: Opened, schedule: &mut [u64], parents: &
     copy_parents(schedule, parents);
 }
 
-// The current budgets are handed up the tree. How many lines there are.
+// The accounts of the book, with the current budgets handed up the tree. How many lines there are.
 fn hand_lines(
+    book: &[u8],
+    opened: Opened,
     schedule: &[u64],
     parents: &[u64],
     accounts: &mut [i64; 3006],
     marks: &mut [u64; 501],
 ) -> u64
-    requires { ⌜ (length (now schedule) ≤ 6500) × (length (now parents) ≤ 500) × ((i : ℕ) → i < length (now parents) → getD (now parents) i 0 < 501) ⌝ }
+    requires { ⌜ IsOpened (now book) opened ⌝ }
+    requires { ⌜ (now schedule ≡ scheduleOf (content (now book))) × (now parents ≡ map parentNumber (content (now book) .activities)) ⌝ }
+    requires { ⌜ (now accounts ≡ replicate 3006 (pos 0)) × (now marks ≡ replicate 501 0) ⌝ }
     ensures most { λ r. ⌜ r ≤ 501 ⌝ }
-    ensures handed { λ r. ⌜ ((book : Book) → now (schedule .entry) ≡ scheduleOf book → AreParents book (now (parents .entry)) → IsBooked book (now (accounts .entry)) (now (marks .entry)) → IsHanded book (now (accounts .exit)) (now (marks .exit)) × (r ≡ length (budgetLines book))) ⌝ }
+    ensures handed { λ r. ⌜ IsHanded (content (now (book .entry))) (now (accounts .exit)) (now (marks .exit)) ⌝ }
+    ensures count { λ r. ⌜ r ≡ length (budgetLines (content (now (book .entry)))) ⌝ }
 {
+    take_ledger(
+        book,
+        opened.plan.activities.count,
+        opened.ledger,
+        accounts,
+        marks,
+    );
     let leaves = parent_marks(schedule);
     hand_up(parents, &leaves, accounts, marks);
     count_marked(marks, parents.len()) + 1
 }
 
-// `schedule` and `parents` are for what is read of the activities.
+// `schedule`, `parents` and `costs` are for what is known of the activities.
 fn lines_in(
     book: &[u8],
     opened: Opened,
     schedule: &mut [u64],
     parents: &mut [u64],
-    accounts: &mut [i64; 3006],
-    marks: &mut [u64; 501],
+    costs: &mut [i64],
     out: &mut [u64],
 ) -> Reply
     requires { ⌜ IsOpened (now book) opened ⌝ }
-    requires { ⌜ (length (now schedule) ≡ opened .plan .activities .count * 13) × (length (now parents) ≡ opened .plan .activities .count) ⌝ }
-    requires { ⌜ IsBooked (content (now book)) (now accounts) (now marks) ⌝ }
+    requires { ⌜ (length (now schedule) ≡ opened .plan .activities .count * 13) × (length (now parents) ≡ opened .plan .activities .count) × (length (now costs) ≡ opened .plan .activities .count * 3) ⌝ }
     ensures { λ r. ⌜ Puts (budgetRows (content (now (book .entry)))) (now (out .entry)) r (now (out .exit)) ⌝ }
 {
+    let mut accounts = [0i64; 3006];
+    let mut marks = [0u64; 501];
     read_activities(book, opened, schedule, parents);
-    let count = hand_lines(schedule, parents, accounts, marks);
+    let count = hand_lines(book, opened, schedule, parents, &mut accounts, &mut marks);
     let n = count as usize * 10;
     if out.len() < n {
         return Reply::Refused(TOO_SHORT, 0);
     }
-    put_all(
+    put_in(
         book,
         opened,
         schedule,
         parents,
-        accounts,
-        marks,
+        &accounts,
+        &marks,
+        costs,
         &mut out[..n],
     );
     Reply::Accepted(count)
 }
 
 // The same, with memory of its own.
-pub fn lines_of(
-    book: &[u8],
-    opened: Opened,
-    accounts: &mut [i64; 3006],
-    marks: &mut [u64; 501],
-    out: &mut [u64],
-) -> Reply
+pub fn lines_of(book: &[u8], opened: Opened, out: &mut [u64]) -> Reply
     requires { ⌜ IsOpened (now book) opened ⌝ }
-    requires { ⌜ IsBooked (content (now book)) (now accounts) (now marks) ⌝ }
     ensures { λ r. ⌜ Puts (budgetRows (content (now (book .entry)))) (now (out .entry)) r (now (out .exit)) ⌝ }
 {
     let n = opened.plan.activities.count as usize;
-    if opened.plan.activities.count <= FEW as u64 {
+    if n <= FEW {
         let mut schedule = [0u64; 416];
         let mut parents = [0u64; 32];
+        let mut costs = [0i64; 96];
         return lines_in(
             book,
             opened,
             &mut schedule[..n * SCHEDULE_WIDTH],
             &mut parents[..n],
-            accounts,
-            marks,
+            &mut costs[..n * COST_WIDTH],
             out,
         );
     }
     let mut schedule = [0u64; 6500];
     let mut parents = [0u64; 500];
+    let mut costs = [0i64; 1500];
     lines_in(
         book,
         opened,
         &mut schedule[..n * SCHEDULE_WIDTH],
         &mut parents[..n],
-        accounts,
-        marks,
+        &mut costs[..n * COST_WIDTH],
         out,
     )
 }

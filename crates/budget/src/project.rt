@@ -1,5 +1,4 @@
 // The project's own budget: what was first approved, and the approved changes.
-use book::Section;
 use book::layout::Ledger;
 use book::layout::Plan;
 use fields::OptionalNumber;
@@ -10,6 +9,7 @@ use ledger::changes::status_number;
 use money::sums::saturating_add;
 use records::budgets::BudgetChange;
 use records::budgets::read_budget_change;
+use sections::Section;
 ghost use mathlib.Core.Path.{_≡_};
 ghost use mathlib.Core.Option.{none};
 ghost use lib.ListN.{replicate};

@@ -1,6 +1,3 @@
-pub mod Dates
-pub mod Laying
-pub mod Dealing
 pub mod Pointing
 pub mod Writing
 pub mod Showing

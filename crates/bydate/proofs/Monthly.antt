@@ -16,9 +16,9 @@ use Rattle.model.specs.Days.{datesBetween}
 use Rattle.model.specs.Amounts.{Dated, on, amounts, saturatedSum, isCharged, lastDay, pointsBetween, points}
 use Rattle.model.specs.Months.{monthStart, inMonth}
 use Rattle.model.proofs.Days.{kept-between}
-use Rattle.bydate.specs.Laid.{sumOf}
+use Rattle.laid.specs.Laid.{sumOf}
 use Rattle.bydate.specs.Pointed.{isMarked, sumOn, pointsIn}
-use Rattle.bydate.proofs.Dates.{parted}
+use Rattle.laid.proofs.Dates.{parted}
 use Rattle.bydate.proofs.Writing.{points-next, points-end}
 use Rattle.bydate.specs.Months.{monthEnd, byMonth}
 use Rattle.bydate.proofs.MonthDays.{in-month, same-month, later-month}

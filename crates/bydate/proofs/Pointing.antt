@@ -14,10 +14,10 @@ use Rattle.model.specs.Days.{datesBetween}
 use Rattle.model.specs.Amounts.{Dated, on, isDated, isCharged, pointOn, pointsBetween}
 use Rattle.model.proofs.Rising.{keep-rises, rising-same}
 use Rattle.model.proofs.Days.{kept-between, between-kept}
-use Rattle.bydate.specs.Laid.{Holds, Laid}
+use Rattle.laid.specs.Laid.{Holds, Laid}
 use Rattle.bydate.specs.Pointed.{isMarked, sumOn, pointsIn, Reaches}
-use Rattle.bydate.proofs.Dates.{keep-alike, map-alike}
-use Rattle.bydate.proofs.Laying.{sum-fits, holds-none}
+use Rattle.laid.proofs.Dates.{keep-alike, map-alike}
+use Rattle.laid.proofs.Laying.{sum-fits, holds-none}
 
 pub is-one : (b : Bool) → eqb (one b) 1 ≡ b
 is-one true = refl

@@ -22,9 +22,9 @@ use Rattle.model.specs.Planned.{running}
 use Rattle.lists.proofs.Lists.{keep-map, keep-keep, keep-same, map-same}
 use Rattle.model.proofs.Rising.{keep-rises, rest-rises, least, rising-same}
 use Rattle.model.proofs.Days.{kept-between, between-kept}
-use Rattle.bydate.specs.Laid.{markOf, sumOf}
+use Rattle.laid.specs.Laid.{markOf, sumOf}
 use Rattle.bydate.specs.Pointed.{isMarked, sumOn, pointsIn, Reaches}
-use Rattle.bydate.proofs.Dates.{none-left, one-first}
+use Rattle.laid.proofs.Dates.{none-left, one-first}
 
 module _ (base : ℕ) where
   -- the total so far and the table, with the sum of a date made the total up to it

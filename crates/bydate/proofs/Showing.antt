@@ -10,8 +10,8 @@ use Rattle.model.specs.Lookup.{noCalendar}
 use Rattle.model.specs.Calendar.{isWorking}
 use Rattle.model.specs.Days.{workingDays, orAlone, dayList}
 use Rattle.calendar.specs.Tables.{ShowsAll}
-use Rattle.bydate.specs.Listed.{inRow, workedBetween, listedBetween}
-use Rattle.bydate.proofs.Dates.{keep-alike}
+use Rattle.laid.specs.Listed.{inRow, workedBetween, listedBetween}
+use Rattle.laid.proofs.Dates.{keep-alike}
 use Rattle.bydate.proofs.Pointing.{is-one}
 
 module _ {calendars : List Calendar} {base end : ℕ} {days : List ℕ} (w : ShowsAll calendars base end days) (k : ℕ) (h : k < length calendars) (first last : ℕ) (f : base ≤ first) (t : last ≤ end) where

@@ -20,7 +20,7 @@ use Rattle.answers.specs.Rows.{pointRow, pointRows}
 use Rattle.answers.specs.Calls.{Puts}
 use Rattle.answers.proofs.Sized.{Sized, sized, no-room, in-front}
 use Rattle.bydate.specs.Pointed.{isMarked, sumOn, pointsIn, rowIf}
-use Rattle.bydate.proofs.Dates.{one-first, none-left}
+use Rattle.laid.proofs.Dates.{one-first, none-left}
 
 -- ---- one row
 

@@ -1,6 +1,3 @@
-pub mod Listed
-pub mod Laid
-pub mod Dealt
 pub mod Pointed
 pub mod Months
 pub mod Sizes

@@ -8,7 +8,7 @@ use Rattle.money.specs.Words.{ofBits}
 use Rattle.lists.specs.Lists.{keep}
 use Rattle.model.specs.Days.{datesBetween}
 use Rattle.model.specs.Amounts.{Dated, on}
-use Rattle.bydate.specs.Laid.{markOf, sumOf}
+use Rattle.laid.specs.Laid.{markOf, sumOf}
 
 abbrev pub isMarked : ℕ → List ℕ → ℕ → Bool
 isMarked base table date = eqb (markOf base table date) 1

@@ -1,9 +1,5 @@
-// Tables by date: the working dates of a span, amounts laid onto the dates of a table, and the points that they make.
-pub mod days;
-pub mod deal;
+// Tables by date: the points that amounts laid onto them make, by day and by month, and their running total.
 pub mod months;
 pub mod points;
 pub mod sizes;
-pub mod spread;
-pub mod table;
 pub mod totals;

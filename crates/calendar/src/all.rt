@@ -1,12 +1,12 @@
 // The days of all calendars of the book in one table.
 use crate::days::fill_days;
-use book::Section;
-use book::calendars::read_calendar;
+use sections::Section;
+use sections::calendars::read_calendar;
 ghost use Prim.Native.Nat.{_+_, _*_, _-_, _≤_};
 ghost use lib.ListN.{length};
 ghost use Rattle.format.specs.InRange.{Every, CalendarInRange};
 ghost use Rattle.format.specs.Format as layout;
-ghost use Rattle.book.specs.Sections.{alikeIn};
+ghost use Rattle.sections.specs.Sections.{alikeIn};
 ghost use Rattle.calendar.specs.Tables.{ShowsAll};
 
 // Calendar after calendar, each with a byte for each date between two.

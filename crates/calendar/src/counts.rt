@@ -1,11 +1,11 @@
 // Running counts of working dates.
 use crate::days::fill_days;
-use book::calendars::Calendar;
+use sections::calendars::Calendar;
 ghost use mathlib.Core.Path.{_≡_};
 ghost use Prim.Native.Nat.{_+_, _-_, _≤_, _<_};
 ghost use lib.ListN.{length};
 ghost use Rattle.format.specs.InRange.{CalendarInRange};
-ghost use Rattle.book.specs.Sections.{calendarOf};
+ghost use Rattle.sections.specs.Sections.{calendarOf};
 ghost use Rattle.lists.specs.Lists.{keep};
 ghost use Rattle.model.specs.Calendar.{isWorking};
 ghost use Rattle.model.specs.Days.{datesBetween};

@@ -1,17 +1,17 @@
 // The table of a calendar's days: 1 where the date works, 0 where not.
 use crate::marks::mark;
 use crate::usual::fill_usual;
-use book::Section;
-use book::calendars::Calendar;
 use fields::kinds::rising;
 use records::calendars::read_exception;
+use sections::Section;
+use sections::calendars::Calendar;
 ghost use mathlib.Core.Path.{_≡_};
 ghost use Prim.Native.Nat.{ℕ, _+_, _-_, _≤_};
 ghost use lib.ListN.{length};
 ghost use Rattle.format.specs.InRange.{CalendarInRange};
 ghost use Rattle.format.specs.Book as content;
 ghost use Rattle.format.specs.Format as layout;
-ghost use Rattle.book.specs.Sections.{elements, calendarOf};
+ghost use Rattle.sections.specs.Sections.{elements, calendarOf};
 ghost use Rattle.model.specs.Calendar.{isWorking};
 ghost use Rattle.calendar.specs.Tables.{Shows, overlaid};
 

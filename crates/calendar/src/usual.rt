@@ -59,7 +59,7 @@ fn free(day: Day, base: u64, days: &mut [u8])
 fn free_year(year: i32, base: u64, days: &mut [u8])
     ensures { λ r. ⌜ now (days .exit) ≡ foldl (freed base) (now (days .entry)) (holidaysIn year) ⌝ }
 {
-    let sunday = holidays::easter(year);
+    let sunday = computus::easter(year);
     let mut k: usize = 0;
     while k < 13 {
         let day = holidays::holiday_in(year, sunday, k);

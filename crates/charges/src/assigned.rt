@@ -1,10 +1,10 @@
 // The book's assignments: what each is booked to, its resource, and its units three ways.
 use crate::set_three;
-use book::Section;
 use book::layout::Plan;
 use fields::OptionalNumber;
 use records::activities::Assignment;
 use records::activities::read_assignment;
+use sections::Section;
 ghost use mathlib.Core.Path.{_≡_};
 ghost use mathlib.Core.List.{flatMap};
 ghost use mathlib.Core.Option.{Option·getD};
@@ -15,7 +15,7 @@ ghost use Rattle.format.specs.Format as layout;
 ghost use Rattle.format.specs.Verdict.{content};
 ghost use Rattle.fields.specs.Optional.{numberOption};
 ghost use Rattle.records.specs.Decoded.{assignmentOf};
-ghost use Rattle.book.specs.Sections.{alikeIn};
+ghost use Rattle.sections.specs.Sections.{alikeIn};
 ghost use Rattle.book.specs.Plan.{IsPlanOf};
 ghost use Rattle.charges.specs.Assigned.{accountBy, linkRow, unitsRow, AreAssigned};
 

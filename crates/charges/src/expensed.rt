@@ -1,11 +1,11 @@
 // The book's expenses: what each is booked to, how it accrues, and its amounts three ways.
 use crate::set_three;
-use book::Section;
 use book::layout::Plan;
 use fields::OptionalNumber;
 use format::Accrual;
 use records::activities::Expense;
 use records::activities::read_expense;
+use sections::Section;
 ghost use mathlib.Core.Path.{_≡_};
 ghost use mathlib.Core.List.{flatMap};
 ghost use Prim.Native.Nat.{_+_, _*_, _<_};
@@ -15,7 +15,7 @@ ghost use Rattle.format.specs.Enumeration.{accrualNumber};
 ghost use Rattle.format.specs.Format as layout;
 ghost use Rattle.format.specs.Verdict.{content};
 ghost use Rattle.records.specs.Decoded.{expenseOf};
-ghost use Rattle.book.specs.Sections.{alikeIn};
+ghost use Rattle.sections.specs.Sections.{alikeIn};
 ghost use Rattle.book.specs.Plan.{IsPlanOf};
 ghost use Rattle.charges.specs.Expensed.{accrualRow, amountsRow, AreExpensed};
 

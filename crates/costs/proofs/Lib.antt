@@ -1,5 +1,3 @@
-pub mod Reading
 pub mod Charged
-pub mod Expensing
 pub mod Owned
 pub mod Answering

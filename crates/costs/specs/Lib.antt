@@ -1,3 +1,2 @@
-pub mod Expensed
 pub mod Figures
 pub mod Answered

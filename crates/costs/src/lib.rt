@@ -1,4 +1,4 @@
-// What the activities themselves cost: their assignments and expenses, and their actual costs and units by kind of resource; the calls that answer with it.
+// What the activities themselves cost: their assignments and expenses, and their actual costs and units by kind of resource; what they cost with all below them; the calls that answer with it.
 pub mod calls;
-pub mod expenses;
 pub mod own;
+pub mod rolled;

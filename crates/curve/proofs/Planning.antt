@@ -22,11 +22,11 @@ use Rattle.tree.specs.Figures.{figureOf}
 use Rattle.spans.specs.declared.Stretch.{Stretch}
 use Rattle.spans.specs.Stretches.{CoversSpans}
 use Rattle.spans.proofs.Days.{days-covered}
-use Rattle.bydate.specs.declared.days.Span.{Span}
-use Rattle.bydate.specs.Laid.{Laid}
-use Rattle.bydate.specs.Listed.{listedIn, spanOf, IsSpan}
-use Rattle.bydate.proofs.Dates.{span-is}
-use Rattle.bydate.proofs.Laying.{Laying, laying-none, laying-more, laying-past, laying-end, laid-same}
+use Rattle.laid.specs.declared.days.Span.{Span}
+use Rattle.laid.specs.Laid.{Laid}
+use Rattle.laid.specs.Listed.{listedIn, spanOf, IsSpan}
+use Rattle.laid.proofs.Dates.{span-is}
+use Rattle.laid.proofs.Laying.{Laying, laying-none, laying-more, laying-past, laying-end, laid-same}
 use Rattle.bydate.proofs.Showing.{row-listed}
 use Rattle.bydate.proofs.Falling.{charged-some, charged-dated}
 use Rattle.bydate.proofs.Each.{eachFrom, each-next, each-end}
@@ -36,7 +36,7 @@ use Rattle.model.proofs.Tree.{parents-count}
 use Rattle.planned.specs.Tabled.{tabled, AreTabled}
 use Rattle.planned.proofs.Tabling.{spans-begin}
 use Rattle.curve.specs.Budgeted.{budgetLaid, budgetsLaid}
-use Rattle.curve.specs.Asking.{AreLists}
+use Rattle.phased.specs.Columns.{ArePhased}
 
 -- ---- leaf after leaf
 
@@ -89,11 +89,11 @@ flat-kept {A} {B} q f g (x ∷ xs) h = ap₂ (λ (l r : List B). l ++ r) (h x (L
     go true = refl
     go false = refl
 
-module _ (b : Book) {marks listed : List ℕ} {budgets : List ℤ} (w : AreLists b marks listed budgets) (range : InRange b)
+module _ (b : Book) {marks listed : List ℕ} {budgets : List ℤ} (w : ArePhased b marks listed budgets) (range : InRange b)
     {known : Stretch} (c : CoversSpans (firstAt listed) (lastAt listed) known)
   where
     begins : (i : ℕ) → i < length (b .activities) → 0 < firstAt listed i
-    begins i h = spans-begin b (w .spans) range i h
+    begins i h = spans-begin b (w .spanned) range i h
 
     -- what is planned falls within the stretch
     pub planned-within : (d : ℕ) → isCharged (plannedByDay b) d ≡ true → (known .from ≤ d) × (d ≤ known .to)
@@ -103,7 +103,7 @@ module _ (b : Book) {marks listed : List ℕ} {budgets : List ℤ} (w : AreLists
         (λ i m.
         let h = span-in 0 (length (parents b)) i (keep-in (isLeaf (parents b)) i (indices (parents b)) m .0) in
         charged-dated d (listedDays b i) (spread (budgetOf b i) (length (listedDays b i)))
-        (λ k. days-covered c (calendarAt b (numberAt listed i)) i d (subst (List·Memᴰ d) (listed-days b (w .spans) range i (omega (arith, h .1, parents-count b))) k)))
+        (λ k. days-covered c (calendarAt b (numberAt listed i)) i d (subst (List·Memᴰ d) (listed-days b (w .spanned) range i (omega (arith, h .1, parents-count b))) k)))
         e
 
     module _ {days : List ℕ} (some : 1 ≤ length (b .calendars)) (few : length (b .calendars) ≤ 16) (most : length (b .activities) ≤ 500)
@@ -115,8 +115,8 @@ module _ (b : Book) {marks listed : List ℕ} {budgets : List ℤ} (w : AreLists
           leaf-laid i h =
               let leaf = isLeaf (parents b) i in
               let list =
-              row-listed shows (numberAt listed i) (listed-named b (w .spans) range some i h) (firstAt listed i) (lastAt listed i) (c .begins i (begins i h)) (c .ends i (begins i h))
-              ∙ sym (listed-list b (w .spans) i h)
+              row-listed shows (numberAt listed i) (listed-named b (w .spanned) range some i h) (firstAt listed i) (lastAt listed i) (c .begins i (begins i h)) (c .ends i (begins i h))
+              ∙ sym (listed-list b (w .spanned) i h)
               in
               ap₂ (λ (t : Bool) (l : List ℕ). cond t (spreadOver (figureOf budgets i) l) []) (w .marked i (omega (arith, parents-count b))) list
               ∙ ap (λ (z : ℤ). cond leaf (spreadOver z (listedDays b i)) []) (budget-at b (w .budgeted) i h)

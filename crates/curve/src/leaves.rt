@@ -1,9 +1,9 @@
 // The leaves' budgets, spread over the listed days of their spans.
 use baseline::listed::LISTED_WIDTH;
-use bydate::days::span_of;
-use bydate::spread::lay_spread;
+use laid::days::span_of;
+use laid::spread::lay_spread;
 ghost use lib.ListN.{length};
-ghost use Rattle.bydate.specs.Laid.{Laid};
+ghost use Rattle.laid.specs.Laid.{Laid};
 ghost use Rattle.planned.specs.Tabled.{AreTabled};
 ghost use Rattle.curve.specs.Budgeted.{budgetsLaid};
 

@@ -3,23 +3,20 @@ pub mod leaves;
 
 use crate::leaves::lay_leaves;
 use activities::schedule::FEW;
-use activities::schedule::SCHEDULE_WIDTH;
-use activities::schedule::fill_schedule;
-use activities::schedule::parent_marks;
 use answers::Reply;
 use answers::open::Opened;
 use baseline::listed::LISTED_WIDTH;
-use baseline::listed::list_spans;
 use bydate::sizes::fits_small;
 use bydate::totals::write_totals;
 use calendar::all::fill_all;
-use costs::own::own_costs;
+use phased::phase;
+use planned::Reach;
+use planned::reach_of;
 use spans::Stretch;
 use spans::stretches::earlier;
 use spans::stretches::later;
-use spans::stretches::stretch_of;
-use tree::table::COST_WIDTH;
 ghost use mathlib.Core.List.{map};
+ghost use mathlib.Core.Path.{_≡_};
 ghost use Prim.Native.Nat.{_*_, _≤_};
 ghost use lib.ListN.{length};
 ghost use Rattle.format.specs.Verdict.{content};
@@ -27,36 +24,27 @@ ghost use Rattle.model.specs.Planned.{plannedByDay, plannedCurveBetween};
 ghost use Rattle.answers.specs.Calls.{Puts};
 ghost use Rattle.answers.specs.Opened.{IsOpened};
 ghost use Rattle.answers.specs.Rows.{pointRow, plannedCurveRows};
-ghost use Rattle.bydate.specs.Laid.{Laid};
+ghost use Rattle.laid.specs.Laid.{Laid};
 ghost use Rattle.bydate.specs.Sizes.{datesOf, FitsSmall, IsEmpty};
-ghost use Rattle.curve.specs.Asking.{AreLists, IsAsked, HasRoom};
+ghost use Rattle.phased.specs.Columns.{ArePhased};
+ghost use Rattle.curve.specs.Asking.{narrowed, IsAsked};
 
-// What is asked of an opened book: the dates between two of the stretch that its listed spans take.
+// What is asked of a book: the dates between two of the stretch that its listed spans take.
 pub struct Asked {
-    pub opened: Opened,
-    pub known: Stretch,
+    pub reach: Reach,
     pub from: u64,
     pub to: u64,
 }
 
-// What planned value is made of: the leaf marks, the listed spans and the leaves' budgets.
-fn fill_lists(
-    book: &[u8],
-    opened: Opened,
-    schedule: &mut [u64],
-    costs: &mut [i64],
-    listed: &mut [u64],
-    budgets: &mut [i64],
-) -> [u64; 500]
-    requires { ⌜ IsOpened (now book) opened ⌝ }
-    requires { ⌜ HasRoom (opened .plan .activities .count) (now schedule) (now costs) (now listed) (now budgets) ⌝ }
-    ensures { λ r. ⌜ AreLists (content (now (book .entry))) r (now (listed .exit)) (now (budgets .exit)) ⌝ }
+// The dates between two, as far as the reach has them.
+fn ask(reach: Reach, between: Stretch) -> Asked
+    ensures { λ r. ⌜ r ≡ narrowed reach between ⌝ }
 {
-    let date = opened.date;
-    fill_schedule(book, date, opened.plan, schedule);
-    own_costs(book, date, opened.plan, schedule, costs);
-    list_spans(book, opened, schedule, costs, listed, budgets);
-    parent_marks(schedule)
+    Asked {
+        reach,
+        from: later(between.from, reach.known.from),
+        to: earlier(between.to, reach.known.to),
+    }
 }
 
 // Lays what is planned by date. The table of the days is to work in.
@@ -70,18 +58,26 @@ fn lay_plan(
     table: &mut [u64],
 )
     requires { ⌜ IsAsked (now book) asked (now marks) (now listed) (now budgets) ⌝ }
-    requires { ⌜ asked .opened .plan .calendars .count * datesOf (asked .known) ≤ length (now days) ⌝ }
-    ensures { λ r. ⌜ Laid (asked .known .from) (plannedByDay (content (now (book .entry)))) (now (table .entry)) (now (table .exit)) ⌝ }
+    requires { ⌜ asked .reach .calendars .count * datesOf (asked .reach .known) ≤ length (now days) ⌝ }
+    ensures { λ r. ⌜ Laid (asked .reach .known .from) (plannedByDay (content (now (book .entry)))) (now (table .entry)) (now (table .exit)) ⌝ }
 {
     fill_all(
         book,
-        asked.opened.plan.calendars,
-        asked.known.from,
-        asked.known.to,
+        asked.reach.calendars,
+        asked.reach.known.from,
+        asked.reach.known.to,
         days,
     );
-    let width = asked.known.to + 1 - asked.known.from;
-    lay_leaves(marks, budgets, listed, days, asked.known.from, width, table);
+    let width = asked.reach.known.to + 1 - asked.reach.known.from;
+    lay_leaves(
+        marks,
+        budgets,
+        listed,
+        days,
+        asked.reach.known.from,
+        width,
+        table,
+    );
 }
 
 // The rows, by tables that are lent: of the days, and by date.
@@ -96,12 +92,12 @@ fn rows_in(
     out: &mut [u64],
 ) -> Reply
     requires { ⌜ IsAsked (now book) asked (now marks) (now listed) (now budgets) ⌝ }
-    requires { ⌜ asked .opened .plan .calendars .count * datesOf (asked .known) ≤ length (now days) ⌝ }
-    requires { ⌜ IsEmpty (datesOf (asked .known)) (now table) ⌝ }
+    requires { ⌜ asked .reach .calendars .count * datesOf (asked .reach .known) ≤ length (now days) ⌝ }
+    requires { ⌜ IsEmpty (datesOf (asked .reach .known)) (now table) ⌝ }
     ensures { λ r. ⌜ Puts (map pointRow (plannedCurveBetween (content (now (book .entry))) (asked .from) (asked .to))) (now (out .entry)) r (now (out .exit)) ⌝ }
 {
     lay_plan(book, asked, marks, budgets, listed, days, table);
-    write_totals(asked.known.from, asked.from, asked.to, table, out)
+    write_totals(asked.reach.known.from, asked.from, asked.to, table, out)
 }
 
 // The rows of a stretch of at most 256 dates.
@@ -114,7 +110,7 @@ fn short_rows(
     out: &mut [u64],
 ) -> Reply
     requires { ⌜ IsAsked (now book) asked (now marks) (now listed) (now budgets) ⌝ }
-    requires { ⌜ datesOf (asked .known) ≤ 256 ⌝ }
+    requires { ⌜ datesOf (asked .reach .known) ≤ 256 ⌝ }
     ensures { λ r. ⌜ Puts (map pointRow (plannedCurveBetween (content (now (book .entry))) (asked .from) (asked .to))) (now (out .entry)) r (now (out .exit)) ⌝ }
 {
     let mut days = [0u8; 4096];
@@ -141,7 +137,7 @@ fn small_rows(
     out: &mut [u64],
 ) -> Reply
     requires { ⌜ IsAsked (now book) asked (now marks) (now listed) (now budgets) ⌝ }
-    requires { ⌜ FitsSmall (asked .opened .plan .calendars .count) (asked .known) ⌝ }
+    requires { ⌜ FitsSmall (asked .reach .calendars .count) (asked .reach .known) ⌝ }
     ensures { λ r. ⌜ Puts (map pointRow (plannedCurveBetween (content (now (book .entry))) (asked .from) (asked .to))) (now (out .entry)) r (now (out .exit)) ⌝ }
 {
     let mut days = [0u8; 8192];
@@ -202,20 +198,15 @@ fn rows_of(
     out: &mut [u64],
 ) -> Reply
     requires { ⌜ IsOpened (now book) opened ⌝ }
-    requires { ⌜ AreLists (content (now book)) (now marks) (now listed) (now budgets) ⌝ }
+    requires { ⌜ ArePhased (content (now book)) (now marks) (now listed) (now budgets) ⌝ }
     ensures { λ r. ⌜ Puts (map pointRow (plannedCurveBetween (content (now (book .entry))) (between .from) (between .to))) (now (out .entry)) r (now (out .exit)) ⌝ }
 {
-    let known = stretch_of(listed, budgets.len(), LISTED_WIDTH, 0);
-    let asked = Asked {
-        opened,
-        known,
-        from: later(between.from, known.from),
-        to: earlier(between.to, known.to),
-    };
+    let reach = reach_of(book, opened, listed, budgets);
+    let asked = ask(reach, between);
     if asked.to < asked.from {
         return Reply::Accepted(0);
     }
-    if fits_small(opened.plan.calendars.count, known) {
+    if fits_small(reach.calendars.count, reach.known) {
         return small_rows(book, asked, marks, budgets, listed, out);
     }
     full_rows(book, asked, marks, budgets, listed, out)
@@ -226,17 +217,15 @@ fn rows_by(
     book: &[u8],
     opened: Opened,
     between: Stretch,
-    schedule: &mut [u64],
-    costs: &mut [i64],
     listed: &mut [u64],
     budgets: &mut [i64],
     out: &mut [u64],
 ) -> Reply
     requires { ⌜ IsOpened (now book) opened ⌝ }
-    requires { ⌜ HasRoom (opened .plan .activities .count) (now schedule) (now costs) (now listed) (now budgets) ⌝ }
+    requires { ⌜ (length (now listed) ≡ opened .plan .activities .count * 3) × (length (now budgets) ≡ opened .plan .activities .count) ⌝ }
     ensures { λ r. ⌜ Puts (map pointRow (plannedCurveBetween (content (now (book .entry))) (between .from) (between .to))) (now (out .entry)) r (now (out .exit)) ⌝ }
 {
-    let marks = fill_lists(book, opened, schedule, costs, listed, budgets);
+    let marks = phase(book, opened, listed, budgets);
     rows_of(book, opened, between, &marks, budgets, listed, out)
 }
 
@@ -246,8 +235,6 @@ fn many_rows(book: &[u8], opened: Opened, between: Stretch, out: &mut [u64]) -> 
     requires { ⌜ opened .plan .activities .count ≤ 500 ⌝ }
     ensures { λ r. ⌜ Puts (map pointRow (plannedCurveBetween (content (now (book .entry))) (between .from) (between .to))) (now (out .entry)) r (now (out .exit)) ⌝ }
 {
-    let mut schedule = [0u64; 6500];
-    let mut costs = [0i64; 1500];
     let mut listed = [0u64; 1500];
     let mut budgets = [0i64; 500];
     let n = opened.plan.activities.count as usize;
@@ -255,8 +242,6 @@ fn many_rows(book: &[u8], opened: Opened, between: Stretch, out: &mut [u64]) -> 
         book,
         opened,
         between,
-        &mut schedule[..n * SCHEDULE_WIDTH],
-        &mut costs[..n * COST_WIDTH],
         &mut listed[..n * LISTED_WIDTH],
         &mut budgets[..n],
         out,
@@ -274,20 +259,15 @@ fn few_of(
     out: &mut [u64],
 ) -> Reply
     requires { ⌜ IsOpened (now book) opened ⌝ }
-    requires { ⌜ AreLists (content (now book)) (now marks) (now listed) (now budgets) ⌝ }
+    requires { ⌜ ArePhased (content (now book)) (now marks) (now listed) (now budgets) ⌝ }
     ensures { λ r. ⌜ Puts (map pointRow (plannedCurveBetween (content (now (book .entry))) (between .from) (between .to))) (now (out .entry)) r (now (out .exit)) ⌝ }
 {
-    let known = stretch_of(listed, budgets.len(), LISTED_WIDTH, 0);
-    let asked = Asked {
-        opened,
-        known,
-        from: later(between.from, known.from),
-        to: earlier(between.to, known.to),
-    };
+    let reach = reach_of(book, opened, listed, budgets);
+    let asked = ask(reach, between);
     if asked.to < asked.from {
         return Reply::Accepted(0);
     }
-    if known.to < known.from + 256 {
+    if reach.known.to < reach.known.from + 256 {
         return short_rows(book, asked, marks, budgets, listed, out);
     }
     many_rows(book, opened, between, out)
@@ -298,17 +278,15 @@ fn few_by(
     book: &[u8],
     opened: Opened,
     between: Stretch,
-    schedule: &mut [u64],
-    costs: &mut [i64],
     listed: &mut [u64],
     budgets: &mut [i64],
     out: &mut [u64],
 ) -> Reply
     requires { ⌜ IsOpened (now book) opened ⌝ }
-    requires { ⌜ HasRoom (opened .plan .activities .count) (now schedule) (now costs) (now listed) (now budgets) ⌝ }
+    requires { ⌜ (length (now listed) ≡ opened .plan .activities .count * 3) × (length (now budgets) ≡ opened .plan .activities .count) ⌝ }
     ensures { λ r. ⌜ Puts (map pointRow (plannedCurveBetween (content (now (book .entry))) (between .from) (between .to))) (now (out .entry)) r (now (out .exit)) ⌝ }
 {
-    let marks = fill_lists(book, opened, schedule, costs, listed, budgets);
+    let marks = phase(book, opened, listed, budgets);
     few_of(book, opened, between, &marks, budgets, listed, out)
 }
 
@@ -318,8 +296,6 @@ fn few_rows(book: &[u8], opened: Opened, between: Stretch, out: &mut [u64]) -> R
     requires { ⌜ opened .plan .activities .count ≤ 32 ⌝ }
     ensures { λ r. ⌜ Puts (map pointRow (plannedCurveBetween (content (now (book .entry))) (between .from) (between .to))) (now (out .entry)) r (now (out .exit)) ⌝ }
 {
-    let mut schedule = [0u64; 416];
-    let mut costs = [0i64; 96];
     let mut listed = [0u64; 96];
     let mut budgets = [0i64; 32];
     let n = opened.plan.activities.count as usize;
@@ -327,8 +303,6 @@ fn few_rows(book: &[u8], opened: Opened, between: Stretch, out: &mut [u64]) -> R
         book,
         opened,
         between,
-        &mut schedule[..n * SCHEDULE_WIDTH],
-        &mut costs[..n * COST_WIDTH],
         &mut listed[..n * LISTED_WIDTH],
         &mut budgets[..n],
         out,

@@ -22,10 +22,10 @@ use Rattle.lists.proofs.Spans.{span-in}
 use Rattle.model.proofs.Costs.{leaf-cost}
 use Rattle.flat.proofs.Tables.{flat-same}
 use Rattle.tree.specs.Figures.{figureOf, MarksLeaves}
-use Rattle.tree.specs.Tables.{costFigures, ownCosts}
-use Rattle.flat.proofs.Spans.{rows-length, rows-at}
+use Rattle.tree.specs.Tables.{ownCosts}
+use Rattle.tree.proofs.Figured.{own-cost-at}
 use Rattle.activities.specs.Schedule.{scheduleOf}
-use Rattle.baseline.specs.Listed.{ifLeaf, budgetsOf, PlannedCosts}
+use Rattle.baseline.specs.Listed.{ifLeaf, budgetsOf}
 use Rattle.baseline.proofs.Listing.{budget-at}
 use Rattle.model.proofs.Tree.{parents-count}
 use Rattle.earned.specs.Done.{doneIn}
@@ -44,23 +44,6 @@ pub same-row :
     sets out at (a ∷ pos 0 ∷ v ∷ c ∷ d ∷ []) ≡ sets out at (a′ ∷ pos 0 ∷ v′ ∷ c′ ∷ d′ ∷ [])
 same-row out at e f g h = rw (e, f, g, h) refl
 
--- ---- own costs
-
-module _ (b : Book) {costs : List ℤ} (e : costs ≡ ownCosts b) where
-  pub costs-long : length costs ≡ length (b .activities) * 3
-  unfolding ownCosts
-  costs-long = ap length e ∙ rows-length 3 (λ i. costFigures (ownCost b i)) (λ i. refl) (length (parents b)) ∙ ap (λ (k : ℕ). k * 3) (parents-count b)
-
-  pub cost-at : (i j : ℕ) → i < length (b .activities) → j < 3 → getD costs (i * 3 + j) (pos 0) ≡ getD (costFigures (ownCost b i)) j (pos 0)
-  unfolding ownCosts
-  cost-at i j h l =
-      ap (λ (t : List ℤ). getD t (i * 3 + j) (pos 0)) e ∙ rows-at 3 (λ k. costFigures (ownCost b k)) (λ k. refl) (length (parents b)) i j (pos 0) (omega (arith, parents-count b)) l
-
-  pub costs-planned : PlannedCosts b costs
-  unfolding ownCost
-  costs-planned =
-      record { long = costs-long; at = λ i h. let z : i * 3 ≡ i * 3 + 0 = omega arith in ap (λ (k : ℕ). getD costs k (pos 0)) z ∙ cost-at i 0 h (omega arith) }
-
 -- ---- a row as the code makes it
 
 abbrev pub measuredIn : EvTechnique → List ℕ → List ℕ → List ℤ → List ℤ → List ℤ → ℕ → List ℤ
@@ -77,7 +60,7 @@ module _ (b : Book) (r : InRange b) (technique : EvTechnique) (t : b .technique 
   measured-row : (i : ℕ) → i < length (b .activities) → measuredIn technique marks schedule units costs budgets i ≡ measuredRow b i
   unfolding measuredRow
   measured-row i h =
-      rw (m i (omega (arith, parents-count b)), budget-at b g i h, cost-at b c i 1 h (omega arith), cost-at b c i 2 h (omega arith), share-is b i e r h technique t (u .done i h) (u .total i h))
+      rw (m i (omega (arith, parents-count b)), budget-at b g i h, own-cost-at b c i 1 h (omega arith), own-cost-at b c i 2 h (omega arith), share-is b i e r h technique t (u .done i h) (u .total i h))
       (go (isLeaf (parents b) i) (leaf-cost b i))
     where
       go :

@@ -1,11 +1,11 @@
 // The units of the activities' assignments: of each those done, and those with the ones that remain.
-use book::Section;
 use book::layout::Plan;
 use fields::OptionalNumber;
 use format::EvTechnique;
 use money::sums::saturating_add;
 use records::activities::Assignment;
 use records::activities::read_assignment;
+use sections::Section;
 ghost use Prim.Native.Nat.{ℕ, _+_, _*_, _<_};
 ghost use mathlib.Core.Path.{_≡_};
 ghost use lib.IntN.{pos};
@@ -14,7 +14,7 @@ ghost use Rattle.format.specs.Format as layout;
 ghost use Rattle.format.specs.InRange.{Every, AssignmentInRange};
 ghost use Rattle.format.specs.Verdict.{content};
 ghost use Rattle.records.specs.Decoded.{assignmentOf};
-ghost use Rattle.book.specs.Sections.{alikeIn};
+ghost use Rattle.sections.specs.Sections.{alikeIn};
 ghost use Rattle.book.specs.Plan.{IsPlanOf};
 ghost use Rattle.earned.specs.Units as units;
 

@@ -1,4 +1,6 @@
 // How the work done performs, and what the work still to do will cost, from the figures of earned value.
+use answers::Reply;
+use answers::TOO_SHORT;
 use fields::OptionalNumber;
 use floats::Index;
 use floats::at_rate;
@@ -13,10 +15,12 @@ use money::sums::saturating_sub;
 use money::words::to_bits;
 use rows::put_optional;
 ghost use mathlib.Core.Path.{_≡_};
+ghost use mathlib.Core.List.{[], _∷_};
 ghost use lib.ListN.{length};
 ghost use lib.Seq.{sets};
 ghost use Rattle.model.specs.Forecast as definition;
 ghost use Rattle.fields.specs.Optional.{numberOption};
+ghost use Rattle.answers.specs.Calls.{Puts};
 ghost use Rattle.answers.specs.Rows.{estimatesRow, indexBits, indicesRow, forecastRow};
 
 // The budget still to earn.
@@ -112,10 +116,21 @@ fn put_indices(x: Indices, out: &mut [u64])
 }
 
 // The forecast and the indices as a row.
-pub fn put_forecast(technique: EtcTechnique, e: Earned, out: &mut [u64])
+fn put_forecast(technique: EtcTechnique, e: Earned, out: &mut [u64])
     requires { ⌜ length (now out) ≡ 9 ⌝ }
     ensures { λ r. ⌜ now (out .exit) ≡ forecastRow technique e ⌝ }
 {
     put_estimates(technique, e, out);
     put_indices(indices(e), out);
+}
+
+// One row of nine numbers, where it fits.
+pub fn give_forecast(technique: EtcTechnique, e: Earned, out: &mut [u64]) -> Reply
+    ensures { λ r. ⌜ Puts (forecastRow technique e ∷ []) (now (out .entry)) r (now (out .exit)) ⌝ }
+{
+    if out.len() < 9 {
+        return Reply::Refused(TOO_SHORT, 0);
+    }
+    put_forecast(technique, e, &mut out[..9]);
+    Reply::Accepted(1)
 }

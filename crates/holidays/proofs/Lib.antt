@@ -1,6 +1,3 @@
-pub mod Computus
 pub mod Ranges
-pub mod Cases
-pub mod NearEaster
 pub mod Years
 pub mod Pinned

@@ -1,11 +1,11 @@
--- What no law fixes: Easter Sundays and the holidays of a year from published tables, by computation.
+-- What no law fixes: the holidays of a year from published tables, by computation.
 -- Assumes nothing.
 use mathlib.Core.Path.{_≡_, refl}
 use mathlib.Core.Bool.{Bool, true, false}
 use mathlib.Core.List.{List, [], _∷_, map}
-use lib.IntN.{ℤ, pos, negsuc}
+use lib.IntN.{ℤ, pos}
 use Rattle.gregorian.specs.Count.{between, counted, signed}
-use Rattle.gregorian.specs.Calendar.{isLeap, leapDay, monthLength, daysToMonth, isDate, dayNumber, weekdayNumber}
+use Rattle.gregorian.specs.Calendar.{isLeap, leapDay, monthLength, daysToMonth, isDate, dayNumber}
 use Rattle.gregorian.proofs.Leap.{is-closed}
 use Rattle.dates.specs.declared.Day.the-variants.{At, Nothing}
 use Rattle.dates.specs.declared.Date.{Date}
@@ -14,24 +14,9 @@ use Rattle.dates.specs.Date.{isYear, fromYmd}
 use Rattle.dates.proofs.Counts.{epoch-is}
 use Rattle.dates.proofs.Laws.{date-of-day}
 use Rattle.lists.specs.Lists.{any}
-use Rattle.holidays.specs.Easter.{golden, century, solar, lunar, age, raised, epact, fromEquinox, fullMoon, sundayAfter, easterOf}
 use Rattle.holidays.specs.Holiday.{isFixed, isAwareness, same, isMovable, byEaster, isHolidayOn, isHoliday}
 use Rattle.holidays.specs.Year.{awarenessIn, holidaysIn}
-use Rattle.holidays.proofs.Cases.{easter-2024}
-
--- ---- Easter Sunday
-
--- 22 March 1693, the earliest there is; 23 March 1704; 25 April 1886, the latest; 18 April 1954 and 19 April 1981, where the epact is one more; 20 April 2025, a
--- week after a full moon on a Sunday; 18 April 3165, of golden number 12
-pub easters : map easterOf (pos 1693 ∷ pos 1704 ∷ pos 1886 ∷ pos 1954 ∷ pos 1981 ∷ pos 2025 ∷ pos 3165 ∷ [])
-    ≡ At (negsuc 101090) ∷ At (negsuc 97072) ∷ At (negsuc 30565) ∷ At (negsuc 5736) ∷ At (pos 4126) ∷ At (pos 20198) ∷ At (pos 436572) ∷ []
-unfolding easterOf isYear between counted signed dayNumber daysToMonth monthLength leapDay isLeap weekdayNumber golden century solar lunar age raised epact fromEquinox fullMoon sundayAfter
-easters = rw (is-closed 11693, is-closed 11704, is-closed 11886, is-closed 11954, is-closed 11981, is-closed 12025, is-closed 13165, epoch-is)
-
--- none in a year out of range
-pub no-easter : easterOf (pos 10000) ≡ Nothing
-unfolding easterOf isYear between
-no-easter = refl
+use Rattle.computus.proofs.Cases.{easter-2024}
 
 -- ---- the holidays of 2024, in the order of the definition; 20 November was none in 2023
 

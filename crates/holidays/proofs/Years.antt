@@ -24,12 +24,12 @@ use Rattle.dates.specs.Date.{signedYear, dayCount, isDay, fromYmd, dateOf, ymdO
 use Rattle.dates.proofs.Counts.{day-bounds}
 use Rattle.dates.proofs.Laws.{date-of-day, day-of-ymd}
 use Rattle.holidays.specs.declared.MonthDay.{MonthDay}
-use Rattle.holidays.specs.Easter.{easterOf}
+use Rattle.computus.specs.Easter.{easterOf}
 use Rattle.holidays.specs.Holiday.{on, fixedDays, isOn, isFixed, isAwareness, distances, same, isMovable, byEaster, isHolidayOn, isHoliday}
 use Rattle.lists.specs.Lists.{any}
 use Rattle.holidays.specs.Year.{dayIn, awarenessIn, moved, holidaysIn}
 use Rattle.lists.proofs.Search.{either, any-left, any-right, any-map, any-at}
-use Rattle.holidays.proofs.NearEaster.{near-easter}
+use Rattle.computus.proofs.NearEaster.{near-easter}
 
 pub self : (z : ℤ) → same z z ≡ true
 unfolding same

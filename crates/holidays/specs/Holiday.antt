@@ -13,7 +13,7 @@ use Rattle.dates.specs.declared.Date.{Date}
 use Rattle.dates.specs.declared.Date.the-variants.{Of, Nothing as no-date}
 use Rattle.dates.specs.Date.{ymdOf}
 use Rattle.holidays.specs.declared.MonthDay.{MonthDay}
-use Rattle.holidays.specs.Easter.{easterOf}
+use Rattle.computus.specs.Easter.{easterOf}
 
 -- ---- the fixed days
 

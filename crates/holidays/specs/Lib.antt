@@ -1,3 +1,2 @@
-pub mod Easter
 pub mod Holiday
 pub mod Year

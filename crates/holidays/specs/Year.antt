@@ -8,7 +8,7 @@ use Rattle.dates.specs.declared.Day.{Day}
 use Rattle.dates.specs.declared.Day.the-variants.{At, Nothing}
 use Rattle.dates.specs.Date.{fromYmd}
 use Rattle.holidays.specs.declared.MonthDay.{MonthDay}
-use Rattle.holidays.specs.Easter.{easterOf}
+use Rattle.computus.specs.Easter.{easterOf}
 use Rattle.holidays.specs.Holiday.{fixedDays, distances}
 
 abbrev pub dayIn : ℤ → MonthDay → Day

@@ -6,7 +6,7 @@ ghost use lib.ListN.{getD};
 ghost use lib.IntN.{ℤ, pos};
 ghost use Rattle.dates.specs.declared.Day.the-variants.{At, Nothing as no-day};
 ghost use Rattle.dates.specs.Date.{isDay};
-ghost use Rattle.holidays.specs.Easter.{easterOf};
+ghost use Rattle.computus.specs.Easter.{easterOf};
 ghost use Rattle.holidays.specs.Holiday.{distances, isFixed, isAwareness, isMovable, byEaster, isHoliday};
 ghost use Rattle.holidays.specs.Year.{moved, awarenessIn, holidaysIn};
 
@@ -54,31 +54,6 @@ fn is_awareness(year: i32, month: u32, day: u32) -> bool
     2024 <= year && (month == 11 && day == 20)
 }
 
-// Easter Sunday, by the anonymous Gregorian algorithm (Meeus). The year is counted from year -5,700,000: after so many years
-// Easter's dates repeat, and no quotient is of a negative number.
-pub fn easter(year: i32) -> dates::Day
-    ensures { λ r. ⌜ r ≡ easterOf year ⌝ }
-{
-    if !dates::is_year(year) {
-        return dates::Day::Nothing;
-    }
-    let y = gregorian::count::counted_from(5700000, year);
-    let a = y % 19;
-    let b = y / 100;
-    let c = y % 100;
-    let d = b / 4;
-    let e = b % 4;
-    let f = (b + 8) / 25;
-    let g = (b - f + 1) / 3;
-    let h = (19 * a + b - d - g + 15) % 30;
-    let i = c / 4;
-    let k = c % 4;
-    let l = (32 + 2 * e + 2 * i - h - k) % 7;
-    let m = (a + 11 * h + 22 * l) / 451;
-    let q = h + l - 7 * m + 114;
-    dates::from_ymd(year, q / 31, q % 31 + 1)
-}
-
 // A day's distance from Easter Sunday is that of a movable holiday.
 fn is_movable(distance: i32) -> bool
     ensures { λ r. ⌜ r ≡ isMovable distance ⌝ }
@@ -97,7 +72,7 @@ fn is_by_easter(year: i32, days: i32) -> bool
     requires { ⌜ isDay days ≡ true ⌝ }
     ensures { λ r. ⌜ r ≡ byEaster (easterOf year) days ⌝ }
 {
-    let sunday = easter(year);
+    let sunday = computus::easter(year);
     match sunday {
         dates::Day::At(e) => is_movable(days - e),
         dates::Day::Nothing => false,

@@ -14,8 +14,8 @@ use borrow.Author.Tests.{eqb-true, eqb-false, eq-eqb, ne-eqb}
 use Rattle.integer.specs.Folds.{saturated}
 use Rattle.format.specs.Book.{Activity, Book}
 use Rattle.format.specs.Format.{names}
-use Rattle.book.specs.Sections.{markOf}
-use Rattle.book.proofs.Marks.{Small, place-below}
+use Rattle.sections.specs.Sections.{markOf}
+use Rattle.sections.proofs.Marks.{Small, place-below}
 use Rattle.lists.specs.Lists.{span, keep}
 use Rattle.model.specs.Lookup.{noActivity}
 use Rattle.model.specs.Tree.{parents, parentOf}

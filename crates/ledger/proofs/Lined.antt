@@ -7,8 +7,8 @@ use mathlib.Core.Option.{none, some}
 use lib.IntN.{ℤ, pos}
 use lib.ListN.{length, getD, length-append}
 use Rattle.format.specs.Book.{Book}
-use Rattle.book.specs.Sections.{markOf}
-use Rattle.book.proofs.Marks.{Small, place-below}
+use Rattle.sections.specs.Sections.{markOf}
+use Rattle.sections.proofs.Marks.{Small, place-below}
 use Rattle.lists.specs.Lists.{span}
 use Rattle.model.specs.Tree.{Parents, parents, walk, steps, stepsMade}
 use Rattle.model.specs.Costs.{costOf, projectCost}

@@ -11,10 +11,10 @@ use Rattle.format.specs.Codec.{O}
 use Rattle.format.specs.Format.{budget}
 use Rattle.format.specs.Verdict.{content}
 use Rattle.fields.specs.Optional.{numberOption}
-use Rattle.book.specs.declared.Section.{Section}
-use Rattle.book.specs.declared.budgets.Budget.{Budget}
-use Rattle.book.specs.Sections.{budgetOf, markOf}
-use Rattle.book.proofs.Marks.{Small, Marked, none-marked, one-marked, index-small, budget-small}
+use Rattle.sections.specs.declared.Section.{Section}
+use Rattle.sections.specs.declared.budgets.Budget.{Budget}
+use Rattle.sections.specs.Sections.{budgetOf, markOf}
+use Rattle.sections.proofs.Marks.{Small, Marked, none-marked, one-marked, index-small, budget-small}
 use Rattle.ledger.specs.Arguments.{IsBudgets, IsBudgetAt}
 use Rattle.ledger.proofs.Reading.{Reading, reading-none, reading-more, reading-next, reading-end}
 

@@ -12,8 +12,8 @@ use borrow.Author.Tests.{eqb-true, eq-eqb, ne-eqb, ltb-true, ltb-false, lt-ltb}
 use Rattle.format.specs.Inverse.{Given}
 use Rattle.format.specs.Book.{Book}
 use Rattle.format.specs.Format.{names}
-use Rattle.book.specs.Sections.{markOf}
-use Rattle.book.proofs.Marks.{Small}
+use Rattle.sections.specs.Sections.{markOf}
+use Rattle.sections.proofs.Marks.{Small}
 use Rattle.model.specs.Budgets.{Account}
 use Rattle.flat.proofs.Spans.{rows-length, rows-at, rows-cells}
 use Rattle.ledger.specs.Accounts.{accountAt, accountRow, accountsWith, accountFigure}

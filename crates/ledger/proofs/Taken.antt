@@ -19,7 +19,7 @@ use Rattle.format.specs.InRange.{Every, NoTwoAlike, BudgetInRange, BudgetChange
 use Rattle.format.specs.Book.{Budget, BudgetChange, Book}
 use Rattle.format.specs.Format.{names}
 use Rattle.format.proofs.Every.{every-in}
-use Rattle.book.proofs.Marks.{Small}
+use Rattle.sections.proofs.Marks.{Small}
 use Rattle.lists.specs.Lists.{consIf, keep}
 use Rattle.model.specs.Budgets.{Account, noBudget, budgetFor, isChange, changes}
 use Rattle.lists.proofs.Lists.{keep-none, at-map}

@@ -12,7 +12,7 @@ use Rattle.integer.specs.Folds.{saturated}
 use Rattle.format.specs.declared.ChangeStatus.the-variants.{Pending, Approved, NotApproved}
 use Rattle.format.specs.Enumeration.{changeStatusNumber}
 use Rattle.format.specs.Book.{Budget, BudgetChange, Book}
-use Rattle.book.specs.Sections.{markOf}
+use Rattle.sections.specs.Sections.{markOf}
 use Rattle.lists.specs.Lists.{span, keep}
 use Rattle.model.specs.Tree.{parents}
 use Rattle.model.specs.Budgets.{Account, budgetFor, changes, distributedOf, isNamed, hasLine}

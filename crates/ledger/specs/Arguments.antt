@@ -13,9 +13,9 @@ use Rattle.format.specs.Field.{index}
 use Rattle.format.specs.Codec.{O}
 use Rattle.format.specs.Format as layout
 use Rattle.format.specs.Verdict.{content}
-use Rattle.book.specs.declared.Section.{Section}
-use Rattle.book.specs.declared.budgets.Budget.{Budget}
-use Rattle.book.specs.Sections.{alikeIn, budgetOf, markOf}
+use Rattle.sections.specs.declared.Section.{Section}
+use Rattle.sections.specs.declared.budgets.Budget.{Budget}
+use Rattle.sections.specs.Sections.{alikeIn, budgetOf, markOf}
 use Rattle.book.specs.Plan.{budgetsIn}
 use Rattle.tree.specs.Figures.{isUnmarked}
 use Rattle.ledger.specs.Accounts.{booked, accounts, MarksNamed, MarksLines}

@@ -5,7 +5,7 @@ use mathlib.Core.Option.{none, some}
 use lib.IntN.{ℤ}
 use lib.ListN.{length}
 use Rattle.fields.specs.Optional.{numberOption}
-use Rattle.book.specs.Sections.{markOf}
+use Rattle.sections.specs.Sections.{markOf}
 use Rattle.model.specs.Tree.{stepsMade}
 use Rattle.model.specs.Budgets.{Account, BudgetLine}
 use Rattle.tree.specs.Figures.{parentsOf, figureOf, saturatingAdd}

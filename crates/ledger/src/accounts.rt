@@ -1,11 +1,11 @@
 // The table of accounts: six figures for each, an activity at its index, the project at 500, behind all of them.
-use book::budgets::mark_of;
 use fields::OptionalNumber;
 use money::sums::saturating_add;
+use sections::budgets::mark_of;
 ghost use mathlib.Core.Path.{_≡_};
 ghost use Prim.Native.Nat.{_+_, _*_, _<_};
 ghost use Rattle.fields.specs.Optional.{numberOption};
-ghost use Rattle.book.specs.Sections.{markOf};
+ghost use Rattle.sections.specs.Sections.{markOf};
 ghost use Rattle.tree.specs.Figures.{addAt};
 ghost use Rattle.ledger.specs.Accounts.{accountFigure, currentIn};
 

@@ -1,13 +1,13 @@
 // A list of amounts, added up.
-use book::Section;
 use fields::kinds::amount;
 use money::sums::saturating_add;
+use sections::Section;
 ghost use mathlib.Core.Path.{_≡_};
 ghost use lib.IntN.{pos};
 ghost use mir.Syntax.{w64};
 ghost use Rattle.integer.specs.Folds.{saturated};
 ghost use Rattle.format.specs.Format as layout;
-ghost use Rattle.book.specs.Sections.{alikeIn};
+ghost use Rattle.sections.specs.Sections.{alikeIn};
 
 // Their sum.
 pub fn sum_amounts(book: &[u8], list: Section) -> i64

@@ -1,16 +1,16 @@
 // The budgets, taken into the table of accounts: what was first approved, the plan added up, and who has one.
 use crate::accounts::account_number;
 use crate::amounts::sum_amounts;
-use book::Section;
-use book::budgets::Budget;
-use book::budgets::read_budget;
 use fields::kinds::optional_index;
 use format::Pos;
+use sections::Section;
+use sections::budgets::Budget;
+use sections::budgets::read_budget;
 ghost use mathlib.Core.Path.{_≡_};
 ghost use mathlib.Core.List.{foldl};
 ghost use lib.ListN.{replicate};
 ghost use Rattle.format.specs.Verdict.{content};
-ghost use Rattle.book.specs.Sections.{budgetOf};
+ghost use Rattle.sections.specs.Sections.{budgetOf};
 ghost use Rattle.ledger.specs.Accounts.{budgetPlace, budgetTaken, markedBy};
 ghost use Rattle.ledger.specs.Arguments.{IsBudgets, IsBudgetAt};
 

@@ -2,10 +2,10 @@
 use crate::accounts::PENDING;
 use crate::accounts::account_number;
 use crate::accounts::add_figure;
-use book::Section;
 use format::ChangeStatus;
 use records::budgets::BudgetChange;
 use records::budgets::read_budget_change;
+use sections::Section;
 ghost use mathlib.Core.Path.{_≡_};
 ghost use mathlib.Core.List.{foldl};
 ghost use Prim.Native.Nat.{_<_};

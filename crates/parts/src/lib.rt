@@ -15,7 +15,7 @@ ghost use Rattle.money.specs.Shares.{shareOf};
 ghost use Rattle.floats.specs.Rounding.{wholeOf};
 ghost use Rattle.floats.specs.Figures.{ratioOf, earnedOf};
 ghost use Rattle.dates.specs.Date.{fromYmd, ymdOf, weekdayOf};
-ghost use Rattle.holidays.specs.Easter.{easterOf};
+ghost use Rattle.computus.specs.Easter.{easterOf};
 ghost use Rattle.holidays.specs.Holiday.{isHoliday};
 ghost use Rattle.parts.specs.Numbers.{absent, numberOf, dateNumber, weekdayNumber};
 
@@ -149,7 +149,7 @@ pub extern "C" fn parts_weekday(days: i32) -> i64
 pub extern "C" fn parts_easter(year: i32) -> i64
     ensures { λ r. ⌜ r ≡ numberOf (easterOf year) ⌝ }
 {
-    number(holidays::easter(year))
+    number(computus::easter(year))
 }
 
 #[no_mangle]

@@ -1,6 +1,5 @@
 -- From the closes, the planned values and the figures of the records to the rows of the periods.
-use Prim.Native.Nat.{ℕ, zero, suc, _+_, _*_, _≤_, _<_}
-use native.Mathlib.Numerals.{add-one, add-two, add-three, add-four, add-five, add-six}
+use Prim.Native.Nat.{ℕ, zero, suc, _+_, _*_, _<_}
 use native.Mathlib.Omega.{arith}
 use mathlib.Core.Path.{_≡_, refl, sym, ap, _∙_, subst}
 use mathlib.Core.Bool.{Bool, true, false, cond, _&&_, _||_}
@@ -8,8 +7,7 @@ use mathlib.Core.List.{List, [], _∷_, map, flatMap, foldl, List·Memᴰ, List�
 use mathlib.Core.Option.{none, some, Option·map}
 use lib.Dec.{eqb, leb}
 use lib.IntN.{ℤ, pos, _+ℤ_}
-use lib.ListN.{length, getD, set, take, replicate, length-map, length-append}
-use lib.Seq.{sets}
+use lib.ListN.{length, getD, take, replicate, length-map, length-append}
 use mir.Syntax.{w64}
 use Rattle.integer.specs.Clamp.{clamp}
 use Rattle.integer.specs.Folds.{saturated}
@@ -17,7 +15,7 @@ use Rattle.format.specs.Book.{PeriodRecord, Book}
 use Rattle.format.specs.InRange.{Every, InRange, PeriodRecordInRange}
 use Rattle.format.specs.Format as layout
 use Rattle.format.specs.Verdict.{content}
-use Rattle.book.specs.Sections.{alikeIn}
+use Rattle.sections.specs.Sections.{alikeIn}
 use Rattle.book.proofs.Plan.{periods-count, records-in-range}
 use Rattle.lists.specs.Lists.{any, span, consIf, keep}
 use Rattle.money.specs.Words.{bits}
@@ -32,18 +30,12 @@ use Rattle.flat.proofs.Cells.{cell-inside}
 use Rattle.flat.proofs.Tables.{flat-same, flat-map}
 use Rattle.rows.specs.Rows.{numbers, optional}
 use Rattle.rows.proofs.Sets.{optional-two}
-use Rattle.tree.specs.Tables.{ownCosts}
-use Rattle.costs.specs.Figures.{ownCostRow}
-use Rattle.costs.proofs.Owned.{own-length, own-at}
 use Rattle.format.proofs.Every.{every-in}
 use Rattle.calendar.specs.Changes.{Changed}
 use Rattle.answers.specs.declared.open.Opened.{Opened}
 use Rattle.answers.specs.Opened.{IsOpened}
 use Rattle.answers.specs.Rows.{periodRow, periodPointsRows}
 use Rattle.answers.proofs.Sized.{Sized, sized}
-use Rattle.baseline.specs.Listed.{PlannedCosts}
-use Rattle.bydate.proofs.Arrays.{front-long}
-use Rattle.periods.specs.Lent.{HasRoom}
 use Rattle.periods.specs.Points.{recorded, pointRow, pointAt}
 
 -- ---- a fold over records
@@ -158,23 +150,6 @@ module _ (b : Book) (ok : InRange b) (marks : List ℕ) (m : MarksLeaves marks (
 
 -- ---- as the code is asked with them
 
--- the first of three own costs of each activity is what its planned cost is made of
-pub planned-costs : (b : Book) {costs : List ℤ} → costs ≡ ownCosts b → PlannedCosts b costs
-unfolding ownCostRow
-planned-costs b {costs} e =
-    record {
-      long = ap length e ∙ own-length b;
-      at = λ i h.
-          let z : i * 3 ≡ i * 3 + 0 = omega arith in
-          ap (λ (k : ℕ). figureOf costs k) z ∙ ap (λ (t : List ℤ). figureOf t (i * 3 + 0)) e ∙ own-at b i 0 h (omega arith);
-    }
-
--- a row set number by number
-pub seven-set :
-    (out : List ℕ) (at a b c d e f g : ℕ) →
-    set (set (set (set (set (set (set out at a) (at + 1) b) (at + 2) c) (at + 3) d) (at + 4) e) (at + 5) f) (at + 6) g ≡ sets out at (a ∷ b ∷ c ∷ d ∷ e ∷ f ∷ g ∷ [])
-seven-set out at a b c d e f g = rw (add-one at, add-two at, add-three at, add-four at, add-five at, add-six at)
-
 period-wide : (p : PeriodPoint) → length (periodRow p) ≡ 7
 unfolding periodRow
 period-wide p =
@@ -205,12 +180,3 @@ zero-figures zero n i = refl
 zero-figures (suc k) zero i = refl
 zero-figures (suc k) (suc n) zero = refl
 zero-figures (suc k) (suc n) (suc i) = zero-figures k n i
-
--- parts of arrays for m activities
-pub arrays-room : (m : ℕ) {n : ℕ} → n ≤ m → HasRoom n (take (n * 3) (replicate (m * 3) (pos 0))) (take (n * 3) (replicate (m * 3) 0)) (take n (replicate m (pos 0)))
-arrays-room m {n} h =
-    record {
-      forCosts = sym (front-long (m * 3) (pos 0) (n * 3) (omega arith));
-      forListed = sym (front-long {A = ℕ} (m * 3) 0 (n * 3) (omega arith));
-      forBudgets = sym (front-long m (pos 0) n h);
-    }

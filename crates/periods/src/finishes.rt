@@ -1,11 +1,11 @@
 // When the periods close.
-use book::Section;
 use fields::kinds::date;
+use sections::Section;
 ghost use mathlib.Core.Path.{_≡_};
 ghost use lib.ListN.{length};
 ghost use Rattle.format.specs.Field.{D};
 ghost use Rattle.format.specs.Codec.{field};
-ghost use Rattle.book.specs.Sections.{alikeIn};
+ghost use Rattle.sections.specs.Sections.{alikeIn};
 
 // Each period's close, in the book's order.
 pub fn fill_finishes(book: &[u8], list: Section, out: &mut [u64])

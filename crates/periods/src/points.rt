@@ -1,8 +1,9 @@
 // The figures that the records make, and the rows of the periods.
-use book::Section;
 use money::words::to_bits;
 use records::periods::PeriodRecord;
 use records::periods::read_period_record;
+use rows::put_row;
+use sections::Section;
 use todate::ACTUAL;
 use todate::EARNED;
 use todate::WIDTH;
@@ -16,15 +17,15 @@ ghost use lib.Seq.{sets};
 ghost use Rattle.format.specs.InRange.{Every, PeriodRecordInRange};
 ghost use Rattle.format.specs.Format as layout;
 ghost use Rattle.records.specs.Decoded.{periodRecordOf};
-ghost use Rattle.book.specs.Sections.{alikeIn};
+ghost use Rattle.sections.specs.Sections.{alikeIn};
 ghost use Rattle.lists.specs.Lists.{span};
 ghost use Rattle.tree.specs.Figures.{figureOf};
 ghost use Rattle.calendar.specs.Changes.{Changed};
 ghost use Rattle.periods.specs.Points.{recordedOne, recorded, ifStored, pointRow, pointAt};
 
 // Takes a record of a leaf into the figures, and none of a parent; `finishes`: when the periods close.
-fn take_record(x: PeriodRecord, marks: &[u64], finishes: &[u64], figures: &mut [i64])
-    requires { ⌜ (x .activity < length (now marks)) × (x .period < length (now finishes)) ⌝ }
+fn take_record(x: PeriodRecord, marks: &[u64; 500], finishes: &[u64], figures: &mut [i64])
+    requires { ⌜ (x .activity < 500) × (x .period < length (now finishes)) ⌝ }
     requires { ⌜ length (now figures) ≡ length (now finishes) * 3 ⌝ }
     ensures { λ r. ⌜ Changed 3 (recordedOne (now (marks .entry)) (now (finishes .entry)) (periodRecordOf x)) (now (figures .entry)) (now (figures .exit)) ⌝ }
 {
@@ -39,12 +40,12 @@ pub fn take_records(
     book: &[u8],
     list: Section,
     activities: u64,
-    marks: &[u64],
+    marks: &[u64; 500],
     finishes: &[u64],
     figures: &mut [i64],
 )
     requires { ⌜ Every (PeriodRecordInRange (length (now finishes)) activities) (alikeIn (layout.periodRecord (length (now finishes)) activities) (now book) list) ⌝ }
-    requires { ⌜ activities ≤ length (now marks) ⌝ }
+    requires { ⌜ activities ≤ 500 ⌝ }
     requires { ⌜ length (now figures) ≡ length (now finishes) * 3 ⌝ }
     ensures { λ r. ⌜ Changed 3 (recorded (now (marks .entry)) (now (finishes .entry)) (alikeIn (layout.periodRecord (length (now (finishes .entry))) activities) (now (book .entry)) list)) (now (figures .entry)) (now (figures .exit)) ⌝ }
 {
@@ -82,14 +83,8 @@ fn put_point(p: usize, finish: u64, planned: i64, figures: &[i64], out: &mut [u6
     let mark = to_bits(stored);
     let worth = if_stored(stored, earned);
     let spent = if_stored(stored, actual);
-    let at = p * 7;
-    out[at] = p as u64;
-    out[at + 1] = finish;
-    out[at + 2] = value;
-    out[at + 3] = mark;
-    out[at + 4] = worth;
-    out[at + 5] = mark;
-    out[at + 6] = spent;
+    let row = [p as u64, finish, value, mark, worth, mark, spent];
+    put_row(&row, p * 7, out);
 }
 
 // The rows of all periods.

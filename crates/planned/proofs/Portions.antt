@@ -24,7 +24,7 @@ use Rattle.model.proofs.Days.{day-list-counted, day-list-empty, day-list-some, 
 use Rattle.model.proofs.Planned.{countUpTo, spread-up-to, count-less, count-working, count-alone}
 use Rattle.model.specs.Lookup.{noCalendar}
 use Rattle.calendar.specs.Tables.{ShowsAll}
-use Rattle.bydate.proofs.Dates.{parted}
+use Rattle.laid.proofs.Dates.{parted}
 use Rattle.bydate.proofs.Showing.{row-worked}
 use Rattle.planned.specs.Values.{plannedIn, settledBy, isNought, isGoing, portionOf, portionIn, plannedBy}
 

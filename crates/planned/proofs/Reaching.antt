@@ -9,7 +9,7 @@ use Rattle.format.specs.Format as layout
 use Rattle.format.specs.InRange.{Every, CalendarInRange}
 use Rattle.format.specs.Verdict.{content}
 use Rattle.format.proofs.Theorems.{content-limits, content-in-range}
-use Rattle.book.specs.Sections.{alikeIn}
+use Rattle.sections.specs.Sections.{alikeIn}
 use Rattle.book.proofs.Plan.{placed-count}
 use Rattle.calendar.specs.Tables.{ShowsAll}
 use Rattle.bydate.specs.Sizes.{datesOf}

@@ -14,9 +14,10 @@ use Rattle.format.specs.Book.{Book}
 use Rattle.lists.specs.Lists.{span}
 use Rattle.model.specs.Tree.{parents, indices, isLeaf}
 use Rattle.model.specs.Planned.{budgetOf, listedDays, plannedAmounts, plannedOn}
-use Rattle.model.specs.Earned.{noEarned, leafEarned, ownEarned}
+use Rattle.model.specs.Earned.{noEarned, leafEarned, ownEarned, projectEarned}
 use Rattle.model.proofs.Planned.{listed-rise, listed-some, budget-fits}
-use Rattle.tree.specs.Figures.{figureOf}
+use Rattle.tree.specs.Figures.{figureOf, unmarkedSum, MarksLeaves}
+use Rattle.tree.proofs.Figured.{planned-leaves}
 use Rattle.baseline.specs.Listed.{listedOf, budgetsOf, ofLeaf, firstAt, lastAt, numberAt}
 use Rattle.lists.proofs.Spans.{made-length, made-at}
 use Rattle.baseline.proofs.Entries.{entries-are}
@@ -57,22 +58,28 @@ module _ (b : Book) {listed : List ℕ} {budgets : List ℤ} (l : listed ≡ lis
       go false = planned-nought date (pos 0) (record { sfits = omega arith }) (listedDays b i) (listed-rise b i) (listed-some b i) refl
 
 -- by a table of days
-pub all-planned :
-    {b : Book} {known : Stretch} {listed : List ℕ} {budgets : List ℤ} {days : List ℕ} → AreDays b known listed budgets days → (date : ℕ) {after : List ℤ} →
-    after ≡ map (plannedAt (known .from) (datesOf known) days date listed budgets) (span 0 (length budgets)) → after ≡ map (λ i. ownEarned b date i .planned) (indices (parents b))
-all-planned {b} {known} {listed} {budgets} {days} d date {after} s =
-    entries-are (λ i. ownEarned b date i .planned) (pos 0) after (length (parents b)) (ap length s ∙ made-length at (length budgets) ∙ long ∙ sym (parents-count b))
-    (λ i h.
-    let k : i < length (b .activities) = omega (arith, parents-count b) in
-    let z = spans-begin b (d .spans) (d .range) i k in
-    ap (λ (t : List ℤ). figureOf t i) s
-    ∙ made-at at (pos 0) (length budgets) i (omega (arith, long))
-    ∙ planned-shown (d .shows) (numberAt listed i) (listed-named b (d .spans) (d .range) (d .limits .someCalendar) i k) (firstAt listed i) (lastAt listed i) (d .covers .begins i z) (d .covers .ends i z) date (figureOf budgets i) (fits b (d .spans) (d .budgeted) (d .range) i)
-    ∙ ap₂ (plannedIn date) (budget-at b (d .budgeted) i k) (sym (listed-list b (d .spans) i k))
-    ∙ own-at b (d .spans) (d .budgeted) (d .range) date i)
-  where
-    at : ℕ → ℤ
-    at = plannedAt (known .from) (datesOf known) days date listed budgets
+module _ {b : Book} {known : Stretch} {listed : List ℕ} {budgets : List ℤ} {days : List ℕ} (d : AreDays b known listed budgets days) (date : ℕ) where
+  abbrev at : ℕ → ℤ
+  at = plannedAt (known .from) (datesOf known) days date listed budgets
 
-    long : length budgets ≡ length (b .activities)
-    long = budgets-long b (d .budgeted)
+  long : length budgets ≡ length (b .activities)
+  long = budgets-long b (d .budgeted)
+
+  -- of an activity
+  pub one-planned : (i : ℕ) → i < length (b .activities) → plannedAt (known .from) (datesOf known) days date listed budgets i ≡ ownEarned b date i .planned
+  one-planned i h =
+      let z = spans-begin b (d .spans) (d .range) i h in
+      planned-shown (d .shows) (numberAt listed i) (listed-named b (d .spans) (d .range) (d .limits .someCalendar) i h) (firstAt listed i) (lastAt listed i) (d .covers .begins i z) (d .covers .ends i z) date (figureOf budgets i) (fits b (d .spans) (d .budgeted) (d .range) i)
+      ∙ ap₂ (plannedIn date) (budget-at b (d .budgeted) i h) (sym (listed-list b (d .spans) i h))
+      ∙ own-at b (d .spans) (d .budgeted) (d .range) date i
+
+  all-planned : map at (span 0 (length budgets)) ≡ map (λ i. ownEarned b date i .planned) (indices (parents b))
+  all-planned =
+      entries-are (λ i. ownEarned b date i .planned) (pos 0) (map at (span 0 (length budgets))) (length (parents b)) (made-length at (length budgets) ∙ long ∙ sym (parents-count b))
+      (λ i h.
+      let k : i < length (b .activities) = omega (arith, parents-count b) in
+      made-at at (pos 0) (length budgets) i (omega (arith, long)) ∙ one-planned i k)
+
+  -- of the leaves, added up
+  pub leaves-all : (marks : List ℕ) → MarksLeaves marks (parents b) → unmarkedSum marks (map (plannedAt (known .from) (datesOf known) days date listed budgets) (span 0 (length budgets))) ≡ projectEarned b date .planned
+  leaves-all marks m = ap (unmarkedSum marks) all-planned ∙ planned-leaves b date marks m

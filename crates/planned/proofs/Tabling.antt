@@ -13,7 +13,7 @@ use Rattle.spans.specs.Stretches.{CoversSpans}
 use Rattle.baseline.specs.Listed.{listedOf, budgetsOf, firstAt, lastAt, numberAt}
 use Rattle.baseline.proofs.Listing.{budgets-long, listed-long, listed-date, listed-named}
 use Rattle.bydate.specs.Sizes.{datesOf}
-use Rattle.bydate.specs.Listed.{Covers}
+use Rattle.laid.specs.Listed.{Covers}
 use Rattle.planned.specs.Tabled.{AreTabled}
 
 -- each begins on a date

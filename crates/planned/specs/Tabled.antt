@@ -3,7 +3,7 @@ use Prim.Native.Nat.{ℕ, _*_, _≤_, _<_}
 use mathlib.Core.Path.{_≡_}
 use mathlib.Core.List.{List}
 use lib.ListN.{length}
-use Rattle.bydate.specs.Listed.{listedBetween, Covers}
+use Rattle.laid.specs.Listed.{listedBetween, Covers}
 use Rattle.baseline.specs.Listed.{firstAt, lastAt, numberAt}
 
 -- the days that are listed for span i

@@ -11,7 +11,7 @@ use Rattle.lists.specs.Lists.{keep}
 use Rattle.model.specs.Amounts.{spreadOver, saturatedSum}
 use Rattle.model.specs.Planned.{isUpTo}
 use Rattle.tree.specs.Figures.{figureOf}
-use Rattle.bydate.specs.Listed.{workedBetween}
+use Rattle.laid.specs.Listed.{workedBetween}
 use Rattle.baseline.specs.Listed.{firstAt, lastAt, numberAt}
 
 -- of an amount over days: the sum of the shares of the days up to the date

@@ -1,9 +1,9 @@
 // One span at a date: before it begins nothing is planned, once it has ended all is, and between that its working dates are counted.
 ghost use mathlib.Core.Path.{_≡_};
 ghost use Prim.Native.Nat.{_≤_, _<_};
-ghost use Rattle.bydate.specs.Listed.{Covers};
+ghost use Rattle.laid.specs.Listed.{Covers};
 ghost use Rattle.planned.specs.Values.{settledBy, isGoing, portionIn, plannedBy};
-use bydate::days::count_working;
+use laid::days::count_working;
 use money::shares::cumulative;
 
 // What is planned where no working dates have to be counted: nothing before the span begins, else all.

@@ -1,6 +1,5 @@
 pub mod Place
 pub mod Changes
-pub mod Lift
 pub mod Shares
 pub mod Stretches
 pub mod Calendars

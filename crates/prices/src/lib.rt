@@ -2,5 +2,4 @@
 pub mod days;
 pub mod effect;
 pub mod rates;
-pub mod repeated;
 pub mod span;

@@ -1,4 +1,5 @@
 // How a project stands at a status date: earned value of the activities and of the project, how much of an activity is done.
+pub mod indices;
 pub mod own;
 pub mod performance;
 pub mod project;

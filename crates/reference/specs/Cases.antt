@@ -20,8 +20,8 @@ use Rattle.dates.specs.declared.Day.{Day}
 use Rattle.dates.specs.declared.Day.the-variants.{At, Nothing}
 use Rattle.dates.specs.Date.{fromYmd}
 use Rattle.dates.proofs.Cases.{leap-day-2000, no-leap-day-2100}
-use Rattle.holidays.specs.Easter.{easterOf}
-use Rattle.holidays.proofs.Cases.{easter-2024}
+use Rattle.computus.specs.Easter.{easterOf}
+use Rattle.computus.proofs.Cases.{easter-2024}
 
 abbrev pub minus : ℕ → ℤ
 minus n = negℤ (pos n)

@@ -6,7 +6,7 @@ use mathlib.Core.Option.{Option, Option·getD, orElse}
 use Rattle.format.specs.declared.Status.{Status}
 use Rattle.format.specs.declared.Status.the-variants.{NotStarted, InProgress, Completed}
 use Rattle.format.specs.Book.{Calendar, Activity}
-use Rattle.book.specs.Sections.{markOf}
+use Rattle.sections.specs.Sections.{markOf}
 use Rattle.model.specs.declared.Way.{Way}
 use Rattle.model.specs.declared.Way.the-variants.{Planned, Actual, Remaining}
 use Rattle.model.specs.Days.{dayList, isStarted, actualTo}

@@ -11,7 +11,7 @@ use Rattle.format.specs.InRange.{Every, CalendarInRange, InRange}
 use Rattle.format.specs.Book.{Book}
 use Rattle.format.specs.Verdict.{content}
 use Rattle.format.proofs.Theorems.{content-in-range}
-use Rattle.book.specs.Sections.{alikeIn}
+use Rattle.sections.specs.Sections.{alikeIn}
 use Rattle.book.specs.Plan.{IsPlanOf}
 use Rattle.book.proofs.Plan.{calendars-most, assignments-most, expenses-most}
 use Rattle.model.specs.Amounts.{pointsBetween}
@@ -28,7 +28,7 @@ use Rattle.answers.specs.declared.Reply.{Reply}
 use Rattle.answers.specs.Calls.{Puts}
 use Rattle.answers.specs.Rows.{pointRow}
 use Rattle.prices.specs.Rates.{rateRow, ratesOf}
-use Rattle.bydate.specs.Laid.{Laid}
+use Rattle.laid.specs.Laid.{Laid}
 use Rattle.bydate.specs.Pointed.{pointsIn, Reaches}
 use Rattle.bydate.proofs.Arrays.{front-long}
 use Rattle.bydate.proofs.Pointing.{points-laid, points-narrow}

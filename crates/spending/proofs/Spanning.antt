@@ -9,7 +9,7 @@ use Rattle.format.specs.Format as layout
 use Rattle.format.specs.Verdict.{content}
 use Rattle.fields.specs.declared.OptionalNumber.{OptionalNumber}
 use Rattle.book.specs.declared.layout.Plan.{Plan}
-use Rattle.book.specs.Sections.{alikeIn}
+use Rattle.sections.specs.Sections.{alikeIn}
 use Rattle.book.specs.Plan.{IsPlanOf}
 use Rattle.book.proofs.Plan.{calendars-count, activities-count, calendars-most, activities-in-range}
 use Rattle.model.specs.declared.Way.the-variants.{Planned}

@@ -1,13 +1,13 @@
 // Amounts laid on the listed days of a span, as they accrue.
-use bydate::days::Span;
-use bydate::days::first_listed;
-use bydate::days::last_listed;
-use bydate::spread::lay_spread;
-use bydate::table::lay;
 use format::Accrual;
+use laid::days::Span;
+use laid::days::first_listed;
+use laid::days::last_listed;
+use laid::spread::lay_spread;
+use laid::table::lay;
 ghost use Rattle.model.specs.Costs.{accrued};
-ghost use Rattle.bydate.specs.Laid.{Laid};
-ghost use Rattle.bydate.specs.Listed.{listedIn, IsSpan};
+ghost use Rattle.laid.specs.Laid.{Laid};
+ghost use Rattle.laid.specs.Listed.{listedIn, IsSpan};
 
 // On the first listed day, on the last, or spread.
 pub fn lay_expense(amount: i64, accrual: Accrual, days: &[u8], span: Span, table: &mut [u64])

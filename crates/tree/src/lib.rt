@@ -1,10 +1,9 @@
-// The tree of activities over slices, one number for each activity: the walk up the parents, the leaves' sum.
+// The tree of activities over slices, one number for each activity: the walk up the parents.
 ghost use mathlib.Core.Path.{_≡_};
-ghost use Prim.Native.Nat.{_≤_, _<_};
+ghost use Prim.Native.Nat.{_<_};
 ghost use lib.ListN.{length};
 ghost use Rattle.model.specs.Tree.{stepsMade};
-ghost use Rattle.tree.specs.Figures.{parentsOf, unmarkedSum};
-use money::sums::saturating_add;
+ghost use Rattle.tree.specs.Figures.{parentsOf};
 
 pub mod table;
 
@@ -38,21 +37,4 @@ fn copy(from: &[i64], to: &mut [i64])
         to[i] = from[i];
         i += 1;
     }
-}
-
-// The figures of the leaves, those with mark 0, added up in index order.
-pub fn leaf_sum(marks: &[u64], figures: &[i64]) -> i64
-    requires { ⌜ length (now figures) ≤ length (now marks) ⌝ }
-    ensures { λ r. ⌜ r ≡ unmarkedSum (now (marks .entry)) (now (figures .entry)) ⌝ }
-{
-    let mut sum: i64 = 0;
-    let mut i = 0;
-    while i < figures.len() {
-        if marks[i] == 0 {
-            let x = figures[i];
-            sum = saturating_add(sum, x);
-        }
-        i += 1;
-    }
-    sum
 }

@@ -1,8 +1,6 @@
 pub mod Changing
-pub mod Costing
 pub mod Counting
 pub mod Dating
 pub mod Reaching
 pub mod Settling
 pub mod Varying
-pub mod Lending

@@ -14,9 +14,9 @@ use Rattle.format.specs.Format as layout
 use Rattle.format.specs.Verdict.{content}
 use Rattle.format.proofs.Theorems.{content-in-range}
 use Rattle.fields.specs.declared.OptionalNumber.{OptionalNumber}
-use Rattle.book.specs.declared.Section.{Section}
+use Rattle.sections.specs.declared.Section.{Section}
 use Rattle.book.specs.declared.layout.Plan.{Plan}
-use Rattle.book.specs.Sections.{alikeIn}
+use Rattle.sections.specs.Sections.{alikeIn}
 use Rattle.book.specs.Plan.{IsPlanOf}
 use Rattle.book.proofs.Plan.{activities-count, alike-length}
 use Rattle.money.proofs.Bits.{there-and-back}
@@ -24,6 +24,7 @@ use Rattle.model.specs.declared.Way.the-variants.{Planned}
 use Rattle.model.specs.Lookup.{noActivity}
 use Rattle.model.specs.Calendar.{calendarOf}
 use Rattle.model.specs.Tree.{parents, indices}
+use Rattle.model.specs.Costs.{costOf}
 use Rattle.model.specs.Variances.{Variance, lastAmong, lastLine, varianceFrom, varianceBy, varianceOf, variances}
 use Rattle.lists.proofs.Spans.{span-in, span-length}
 use Rattle.flat.proofs.Tables.{flat-same, flat-map}
@@ -37,9 +38,12 @@ use Rattle.answers.proofs.Sized.{Sized, sized}
 use Rattle.baseline.specs.Lines.{lineRow, linesTable, Zeros, IsLines}
 use Rattle.baseline.proofs.Listing.{line-range}
 use Rattle.model.proofs.Tree.{parents-count}
+use Rattle.tree.specs.Figures.{figureOf}
+use Rattle.tree.specs.Tables.{rolledCosts}
+use Rattle.tree.proofs.Figured.{rolled-at}
 use Rattle.variances.specs.Changed.{rowOf, changed}
 use Rattle.variances.specs.Days.{hasLine, datedBy, Tables, allRows, Dated}
-use Rattle.variances.specs.Completion.{settled, Timed, Costed}
+use Rattle.variances.specs.Completion.{settled, Timed}
 use Rattle.variances.proofs.Changing.{row-at, row-made, changed-made}
 
 line-wide : (o : Option BaselineLine) → length (lineRow o) ≡ 5
@@ -62,19 +66,21 @@ numbers-are b = flat-map (λ (row : List ℕ). row) varianceRow (variances b) �
 
 -- a line with days, then with minutes and costs, is the row of its variance
 row-varies :
-    (b : Book) (schedule : List ℕ) → schedule ≡ scheduleOf b → (costs : List ℤ) → Costed b costs → (i : ℕ) → i < length (b .activities) →
+    (b : Book) (schedule : List ℕ) → schedule ≡ scheduleOf b → (costs : List ℤ) → costs ≡ rolledCosts b → (i : ℕ) → i < length (b .activities) →
     (o : Option BaselineLine) → Given (BaselineLineInRange (length (b .activities))) o → settled schedule costs i (datedBy (b .calendars) schedule i (lineRow o)) ≡ varianceRow (varianceBy b i o)
 unfolding varianceRow varianceFrom calendarOf calendarNumber firstDate lastDate
 row-varies b schedule e costs c i k none g = refl
 row-varies b schedule e costs c i k (some l) g =
+    let spent : figureOf costs (i * 3 + 1) ≡ costOf b i .actual = rolled-at b c i 1 k (omega arith) in
+    let left : figureOf costs (i * 3 + 2) ≡ costOf b i .remaining = rolled-at b c i 2 k (omega arith) in
     rw (
       calendar-at b e i k,
       first-at b e Planned i k,
       last-at b e Planned i k,
       working-at b e i k,
       there-and-back (l .cost) (g .cost),
-      c .actual i k,
-      c .remaining i k,
+      spent,
+      left,
     ) refl
 
 module _ (b : Book) (schedule : List ℕ) (e : schedule ≡ scheduleOf b) where
@@ -172,7 +178,7 @@ module _ (b : Book) (schedule : List ℕ) (e : schedule ≡ scheduleOf b) where
 
         -- ---- with minutes and costs
 
-        pub rows-are : {costs : List ℤ} → Costed b costs → {after : List ℕ} → after ≡ allRows (settled schedule costs) out → after ≡ numbers (variancesRows b)
+        pub rows-are : {costs : List ℤ} → costs ≡ rolledCosts b → {after : List ℕ} → after ≡ allRows (settled schedule costs) out → after ≡ numbers (variancesRows b)
         rows-are {costs} c h =
             h
             ∙ rows-changed (λ i. datedBy (b .calendars) schedule i (lineRow (lastLine b i))) days-wide days-made (settled schedule costs)

@@ -1,6 +1,5 @@
 -- Rows with the differences of the minutes and of the costs: the baseline's less those of the schedule.
 use Prim.Native.Nat.{ℕ, _+_, _*_, _/_, _<_}
-use mathlib.Core.Path.{_≡_}
 use mathlib.Core.Bool.{cond}
 use mathlib.Core.List.{List, [], _∷_}
 use lib.IntN.{ℤ, pos, _+ℤ_, _-ℤ_}
@@ -9,9 +8,7 @@ use lib.Seq.{sets}
 use mir.Syntax.{w64}
 use Rattle.integer.specs.Clamp.{clamp}
 use Rattle.format.specs.InRange.{IsMinutes}
-use Rattle.format.specs.Book.{Book}
 use Rattle.money.specs.Words.{bits, ofBits}
-use Rattle.model.specs.Costs.{costOf}
 use Rattle.tree.specs.Figures.{figureOf}
 use Rattle.activities.specs.Schedule.{entryAt}
 use Rattle.variances.specs.Days.{hasLine}
@@ -34,9 +31,3 @@ settled schedule costs i row =
 pub record Timed (schedule out : List ℕ) : Type 0 where
   pub lines : (i : ℕ) → i < length out / 5 → IsMinutes (getD out (i * 5 + 3) 0)
   pub working : (i : ℕ) → i < length out / 5 → IsMinutes (entryAt schedule i 9)
-
--- three figures of each activity, the second what it costs so far and the third what it will, with all below it
-pub record Costed (book : Book) (costs : List ℤ) : Type 0 where
-  pub long : length costs ≡ length (book .activities) * 3
-  pub actual : (i : ℕ) → i < length (book .activities) → figureOf costs (i * 3 + 1) ≡ costOf book i .actual
-  pub remaining : (i : ℕ) → i < length (book .activities) → figureOf costs (i * 3 + 2) ≡ costOf book i .remaining

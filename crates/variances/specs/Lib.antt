@@ -1,4 +1,3 @@
 pub mod Changed
 pub mod Days
 pub mod Completion
-pub mod Lent

@@ -70,7 +70,7 @@ pub fn answer(name: &[u8], x: [u64; 16]) -> Answer {
         1 => day(dates::from_days(z)),
         2 => date(dates::ymd(z)),
         3 => weekday(dates::weekday(z)),
-        4 => day(holidays::easter(z)),
+        4 => day(computus::easter(z)),
         5 => holiday(z),
         _ => unknown(),
     }

@@ -1,25 +1,25 @@
 -- `lay_plan` meets its contract: the days of the calendars, then the leaves' budgets over their spans.
 use native.Mathlib.Omega.{arith}
 use Rattle.planned.proofs.Reaching.{reach-calendars, reach-tabled}
-use Rattle.curve.proofs.Curving.{asked-reached, asked-planned}
+use Rattle.curve.proofs.Curving.{asked-planned}
 use borrow.Author.Needs.{needs}
 use Rattle.curve.proofs.lay_plan.Statement.{statement}
 use Rattle.curve.proofs.lay_plan.Tie as tie
 
 fill-all-requires : tie.Need-fill-all-requires
-fill-all-requires c κs = let s = c .before .before .before .before .before .pre in (s .0 .covers .most, (s .1, reach-calendars (asked-reached (s .0))))
+fill-all-requires c κs = let s = c .before .before .before .before .before .pre in (s .0 .reached .covers .most, (s .1, reach-calendars (s .0 .reached)))
 
 add-width : tie.Need-add-width
-add-width c = omega (arith, c .before .before .before .before .before .before .before .before .before .pre .0 .covers .most)
+add-width c = omega (arith, c .before .before .before .before .before .before .before .before .before .pre .0 .reached .covers .most)
 
 sub-width : tie.Need-sub-width
-sub-width c = let t = c .before .before .before .before .before .before in omega (arith, t .before .before .before .before .pre .0 .covers .ahead)
+sub-width c = let t = c .before .before .before .before .before .before in omega (arith, t .before .before .before .before .pre .0 .reached .covers .ahead)
 
 lay-leaves-requires : tie.Need-lay-leaves-requires
 lay-leaves-requires c κs =
     let t = c .before .before .before .before .before .before in
     let s = t .before .before .before .before .before .before .pre in
-    reach-tabled (asked-reached (s .0)) (omega (arith, s .1, t .fill-all .kept .1 .1 .1 .1 .0))
+    reach-tabled (s .0 .reached) (omega (arith, s .1, t .fill-all .kept .1 .1 .1 .1 .0))
 
 same-length : tie.Need-same-length
 same-length c = search needs

@@ -11,7 +11,7 @@ use Rattle.dates.specs.declared.Day.{Day}
 use Rattle.dates.specs.declared.Day.the-variants.{Nothing}
 use Rattle.holidays.specs.Holiday.{on, fixedDays, distances}
 use Rattle.holidays.specs.Year.{dayIn, awarenessIn, moved, holidaysIn}
-use Rattle.holidays.proofs.Computus.{easter-day}
+use Rattle.computus.proofs.Meeus.{easter-day}
 use Rattle.holidays.proofs.Years.{fixed-at, awareness-at, movable-at}
 use Rattle.holidays.proofs.holiday_in.Statement.{statement}
 use Rattle.holidays.proofs.holiday_in.Tie as tie

@@ -9,9 +9,9 @@ use mir.Val.{toZ, ofZ}
 use mir.Facts.{toZ-ofZ}
 use Rattle.dates.specs.declared.Day.the-variants.{At}
 use Rattle.dates.specs.Date.{isDay}
-use Rattle.holidays.specs.Easter.{easterOf}
+use Rattle.computus.specs.Easter.{easterOf}
 use Rattle.holidays.specs.Holiday.{isMovable, byEaster}
-use Rattle.holidays.proofs.Computus.{easter-day}
+use Rattle.computus.proofs.Meeus.{easter-day}
 use Rattle.holidays.proofs.Ranges.{day-fits, distance-fits}
 use Rattle.holidays.proofs.is_by_easter.Statement.{statement}
 use Rattle.holidays.proofs.is_by_easter.Tie as tie

@@ -12,7 +12,7 @@ use Rattle.gregorian.proofs.Counts.{tested}
 use Rattle.dates.specs.declared.Date.the-variants.{Of}
 use Rattle.dates.specs.Date.{isDay, ymdOf}
 use Rattle.dates.proofs.Laws.{from-ymd-at, ymd-of, day-of-ymd}
-use Rattle.holidays.specs.Easter.{easterOf}
+use Rattle.computus.specs.Easter.{easterOf}
 use Rattle.holidays.specs.Holiday.{isAwareness, byEaster, isHolidayOn, isHoliday}
 use Rattle.holidays.proofs.Ranges.{year-fits}
 use Rattle.holidays.proofs.is_holiday.Statement.{statement}

@@ -3,7 +3,7 @@ use mathlib.Core.Path.{ap, _∙_}
 use mir.Syntax.{w64}
 use mir.Facts.{toZ-ofZ}
 use Rattle.integer.specs.Linear.{back}
-use Rattle.holidays.specs.Easter.{easterOf}
+use Rattle.computus.specs.Easter.{easterOf}
 use Rattle.parts.specs.Numbers.{numberOf}
 use Rattle.parts.proofs.parts_easter.Statement.{statement}
 use Rattle.parts.proofs.parts_easter.Tie as tie

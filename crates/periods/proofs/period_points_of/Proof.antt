@@ -24,16 +24,16 @@ returns-2 c =
     let s = c .before .before .before .before in
     nothing-there (periodPointsRows (content (s .args .book .now))) _ (rows-sized (s .pre)) (omega (arith, c .if2 .taken))
 
-slice-aggregate-fill-periods : tie.Need-slice-aggregate-fill-periods
-slice-aggregate-fill-periods c = sym (length-take-le _ _ (omega (arith, c .before .before .if1 .left)))
+slice-aggregate-put-periods : tie.Need-slice-aggregate-put-periods
+slice-aggregate-put-periods c = sym (length-take-le _ _ (omega (arith, c .before .before .if1 .left)))
 
-fill-periods-requires : tie.Need-fill-periods-requires
-fill-periods-requires c κs = (c .before .before .before .before .before .pre, sym (slice-aggregate-fill-periods c))
+put-periods-requires : tie.Need-put-periods-requires
+put-periods-requires c κs = (c .before .before .before .before .before .pre, sym (slice-aggregate-put-periods c))
 
 returns-3 : tie.Need-returns-3
 returns-3 c =
     let s = c .before .before .before .before .before .before .before .before in
-    in-front (periodPointsRows (content (s .args .book .now))) _ (rows-sized (s .pre)) (omega (arith, c .before .before .before .before .before .if1 .left)) _ (c .before .before .fill-periods .ensures)
+    in-front (periodPointsRows (content (s .args .book .now))) _ (rows-sized (s .pre)) (omega (arith, c .before .before .before .before .before .if1 .left)) _ (c .before .before .put-periods .ensures)
 
 pub period-points-of-spec : {M : Type 1} → statement M
 period-points-of-spec =
@@ -43,7 +43,7 @@ period-points-of-spec =
     returns
     returns-2
     (λ c. search needs)
-    slice-aggregate-fill-periods
-    fill-periods-requires
+    slice-aggregate-put-periods
+    put-periods-requires
     (λ c. search needs)
     returns-3)

@@ -1,7 +1,6 @@
 -- `fill_variances` meets its contract: without a line zeros, else from the lines.
 use borrow.Author.Needs.{needs}
 use mathlib.Core.Path.{_∙_}
-use Rattle.book.proofs.Plan.{activities-most}
 use Rattle.baseline.proofs.Listing.{lines-are}
 use Rattle.variances.proofs.Varying.{rows-blank}
 use Rattle.variances.proofs.fill_variances.Statement.{statement}
@@ -21,19 +20,11 @@ take-lines-requires c κs =
     let lines = lines-are (s .pre .0 .plan) (s .pre .0 .ledger .baseline) _ (c .before .before .before .lines-of .ensures _ _) in
     (lines, (c .before .before .before .before .before .out .given ∙ s .pre .1, cleared .clear .ensures))
 
-abbrev start : (taken : tie.After-take-lines) → tie.Start
-start taken = taken .before .before .before .before .before .before .before .before .before .before .before
-
-vary-few-requires : tie.Need-vary-few-requires
-vary-few-requires c κs =
-    let taken = c .before .before .before .before .before in
-    (start taken .pre .0 .plan, (c .before .if2 .taken, taken .take-lines .ensures))
-
-vary-many-requires : tie.Need-vary-many-requires
-vary-many-requires c κs =
-    let taken = c .before .before .before .before .before in
-    let plan = start taken .pre .0 .plan in
-    (plan, (activities-most plan, taken .take-lines .ensures))
+vary-lines-requires : tie.Need-vary-lines-requires
+vary-lines-requires c κs =
+    let taken = c .before .before .before in
+    let s = taken .before .before .before .before .before .before .before .before .before .before .before in
+    (s .pre .0 .plan, taken .take-lines .ensures)
 
 pub fill-variances-spec : {M : Type 1} → statement M
 fill-variances-spec =
@@ -44,9 +35,6 @@ fill-variances-spec =
     (λ c. search needs)
     returns
     take-lines-requires
-    vary-few-requires
-    (λ c. search needs)
-    (λ c. search needs)
-    vary-many-requires
+    vary-lines-requires
     (λ c. search needs)
     (λ c. search needs))

@@ -1,42 +1,47 @@
--- `vary_lines` meets its contract: the schedule, the working days, then minutes and costs.
+-- `vary_lines` meets its contract: the arrays have room for the activities, few or not.
+use Prim.Native.Nat.{_≤_}
+use native.Mathlib.Omega.{arith}
+use mathlib.Core.Path.{sym}
+use lib.Seq.{length-take-le}
+use Rattle.book.proofs.Plan.{activities-most}
 use borrow.Author.Needs.{needs}
-use Rattle.format.specs.Verdict.{content}
-use Rattle.format.proofs.Theorems.{content-in-range}
-use Rattle.variances.proofs.Varying.{lines-tables, lines-dated, calendars-ranged, lines-named, days-are}
 use Rattle.variances.proofs.vary_lines.Statement.{statement}
 use Rattle.variances.proofs.vary_lines.Tie as tie
 
-abbrev start : (filled : tie.After-fill-schedule) → tie.Start
-start filled = filled .before .before .before .before .before .before
+most : (c : tie.Else1) → c .before .before .before .args .plan .activities .count ≤ 500
+most c = activities-most (c .before .before .before .pre .0)
 
-count-days-requires : tie.Need-count-days-requires
-count-days-requires c κs =
-    let filled = c .before .before .before .before in
-    let s = start filled in
-    let b = content (s .args .book .now) in
-    let e = filled .fill-schedule .ensures in
-    let f = s .pre .1 .1 in
-    (calendars-ranged (s .pre .0), (lines-tables b _ e f, (lines-named (s .pre .0) e f, lines-dated b _ e f (content-in-range (s .args .book .now) (s .pre .0 .accepted)))))
+vary-in-requires : tie.Need-vary-in-requires
+vary-in-requires c κs =
+    let few = c .before .before .before in
+    let s = few .before .before .before .pre in
+    (s .0, ((length-take-le _ _ (omega (arith, few .if1 .taken)), length-take-le _ _ (omega (arith, few .if1 .taken))), s .1))
 
-settle-costs-requires : tie.Need-settle-costs-requires
-settle-costs-requires c κs =
-    let counted = c .before .before .before .before .before .before .before in
-    let filled = counted .before .before .before .before .before in
-    let s = start filled in
-    let e = filled .fill-schedule .ensures in
-    let room = s .pre .1 .0 in
-    (s .pre .0, (e, ((room .forParents, room .forOwn, room .forCosts), days-are (s .pre .0) e (s .pre .1 .1) (counted .count-days .ensures))))
+vary-in-requires-2 : tie.Need-vary-in-requires-2
+vary-in-requires-2 c κs =
+    let many = c .before .before .before in
+    let s = many .before .before .before .pre in
+    (s .0, ((length-take-le _ _ (omega (arith, most many)), length-take-le _ _ (omega (arith, most many))), s .1))
 
 pub vary-lines-spec : {M : Type 1} → statement M
 vary-lines-spec =
     tie.close
     (tie.spec
-    (λ c κs. search needs)
-    count-days-requires
-    settle-costs-requires
+    (λ c. omega (arith, c .if1 .taken))
+    (λ c. omega (arith, c .if1 .taken))
+    (λ c. sym (length-take-le _ _ (omega (arith, c .before .if1 .taken))))
+    (λ c. omega (arith, c .before .if1 .taken))
+    (λ c. omega (arith, c .before .if1 .taken))
+    (λ c. sym (length-take-le _ _ (omega (arith, c .before .before .if1 .taken))))
+    vary-in-requires
     (λ c. search needs)
     (λ c. search needs)
-    (λ c. search needs)
-    (λ c. search needs)
+    (λ c. omega (arith, most c))
+    (λ c. omega (arith, most c))
+    (λ c. sym (length-take-le _ _ (omega (arith, most (c .before)))))
+    (λ c. omega (arith, most (c .before)))
+    (λ c. omega (arith, most (c .before)))
+    (λ c. sym (length-take-le _ _ (omega (arith, most (c .before .before)))))
+    vary-in-requires-2
     (λ c. search needs)
     (λ c. search needs))

@@ -7,7 +7,7 @@ use lib.Seq.{sets}
 use borrow.Author.Needs.{needs}
 use Rattle.format.specs.Format.{activity}
 use Rattle.fields.specs.Optional.{numberOption}
-use Rattle.book.specs.Sections.{elements}
+use Rattle.sections.specs.Sections.{elements}
 use Rattle.activities.specs.Schedule.{scheduleRow}
 use Rattle.activities.proofs.Rows.{FilledRows, rows-none, rows-more, rows-end}
 use Rattle.activities.proofs.Scheduling.{row-wide}

@@ -6,7 +6,7 @@ use borrow.Author.Needs.{needs}
 use Rattle.format.specs.declared.Pos.{Pos}
 use Rattle.format.specs.Book.{Activity}
 use Rattle.format.specs.Format as layout
-use Rattle.book.specs.Sections.{elements}
+use Rattle.sections.specs.Sections.{elements}
 use Rattle.model.specs.Lookup.{noActivity}
 use Rattle.activities.specs.Schedule.{scheduleRow}
 use Rattle.activities.proofs.Rows.{element-at}

@@ -2,7 +2,7 @@
 use mathlib.Core.Path.{refl}
 use Rattle.format.specs.Reader.{many}
 use Rattle.format.specs.Codec.{times}
-use Rattle.book.specs.Sections.{elements}
+use Rattle.sections.specs.Sections.{elements}
 use Rattle.book.specs.Layout.{linesOf}
 use Rattle.baseline.proofs.lines.lines_of.Statement.{statement}
 use Rattle.baseline.proofs.lines.lines_of.Tie as tie

@@ -10,7 +10,7 @@ use Rattle.format.specs.InRange.{BaselineLineInRange}
 use Rattle.format.specs.Book.{BaselineLine}
 use Rattle.format.specs.Verdict.{content}
 use Rattle.records.specs.Decoded.{baselineLineOf}
-use Rattle.book.specs.Sections.{elements}
+use Rattle.sections.specs.Sections.{elements}
 use Rattle.calendar.proofs.Parts.{Reading, read-length, reading-none, reading-is, reading-more}
 use Rattle.baseline.specs.Lines.{taken}
 use Rattle.baseline.proofs.Taking.{Taking, taking-none, taking-more, taking-end, taken-all, read-range}

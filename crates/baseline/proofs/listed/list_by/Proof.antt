@@ -7,6 +7,7 @@ use borrow.Author.Needs.{needs}
 use Rattle.format.specs.Verdict.{content}
 use Rattle.activities.proofs.Scheduling.{schedule-length}
 use Rattle.model.proofs.Tree.{parents-count}
+use Rattle.tree.proofs.Figured.{own-costs-long}
 use Rattle.baseline.proofs.listed.list_by.Statement.{statement}
 use Rattle.baseline.proofs.listed.list_by.Tie as tie
 
@@ -28,7 +29,7 @@ fill-budgets-requires c κs =
     let spans = c .before .before .before .before in
     let lines = spans .before .before .before .before in
     let s = lines .before .before .before .before .before .before .before in
-    (scheduled s, omega (arith, lines .lines .given, s .pre .1 .1 .1 .0), omega (arith, s .pre .1 .1 .0 .long, counted s), s .pre .0 .2)
+    (scheduled s, omega (arith, lines .lines .given, s .pre .1 .1 .1 .0), omega (arith, own-costs-long (content (s .args .book .now)) (s .pre .1 .1 .0), counted s), s .pre .0 .2)
 
 returns : tie.Need-returns
 returns c =

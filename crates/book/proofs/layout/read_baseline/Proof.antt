@@ -12,7 +12,7 @@ use Rattle.format.specs.Reader.{given, mapped, both}
 use Rattle.format.specs.Field.{U}
 use Rattle.format.specs.Codec.{Codec, field, marked, when, iso, _then_}
 use Rattle.book.specs.Layout.{linesOf}
-use Rattle.book.proofs.Lists.{up-to-read}
+use Rattle.sections.proofs.Lists.{up-to-read}
 use Rattle.book.proofs.layout.read_baseline.Statement.{statement}
 use Rattle.book.proofs.layout.read_baseline.Tie as tie
 

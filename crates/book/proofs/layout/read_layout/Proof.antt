@@ -7,7 +7,7 @@ use Rattle.format.specs.Book.{Book}
 use Rattle.format.specs.Verdict.{content, verdict}
 use Rattle.book.specs.declared.layout.Layout.{Layout}
 use Rattle.book.specs.Layout.{IsLayout, bookOf}
-use Rattle.book.proofs.Limits.{count-most}
+use Rattle.sections.proofs.Limits.{count-most}
 use Rattle.book.proofs.Whole.{layout-book}
 use Rattle.book.proofs.layout.read_layout.Statement.{statement}
 use Rattle.book.proofs.layout.read_layout.Tie as tie

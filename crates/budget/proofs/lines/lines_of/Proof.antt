@@ -1,4 +1,5 @@
--- `lines_of` meets its contract: memory of its own.
+-- `lines_of` meets its contract: the arrays have room for the activities, few or not.
+use Prim.Native.Nat.{_≤_}
 use native.Mathlib.Omega.{arith}
 use mathlib.Core.Path.{sym}
 use lib.Seq.{length-take-le}
@@ -7,56 +8,44 @@ use borrow.Author.Needs.{needs}
 use Rattle.budget.proofs.lines.lines_of.Statement.{statement}
 use Rattle.budget.proofs.lines.lines_of.Tie as tie
 
-few-schedule : tie.Need-slice-aggregate-lines-in
-few-schedule c = sym (length-take-le _ _ (omega (arith, c .before .if1 .taken)))
+most : (c : tie.Else1) → c .before .before .before .args .opened .plan .activities .count ≤ 500
+most c = activities-most (c .before .before .before .pre .plan)
 
-few-parents : tie.Need-slice-aggregate-lines-in-2
-few-parents c = sym (length-take-le _ _ (c .before .before .if1 .taken))
+lines-in-requires : tie.Need-lines-in-requires
+lines-in-requires c κs =
+    let few = c .before .before .before .before in
+    let opened = few .before .before .before .pre in
+    (opened, (length-take-le _ _ (omega (arith, few .if1 .taken)), length-take-le _ _ (few .if1 .taken), length-take-le _ _ (omega (arith, few .if1 .taken))))
 
-few-requires : tie.Need-lines-in-requires
-few-requires c κs =
-    let lent = c .before .before .before in
-    let s = lent .before .before .before .before .before .before .pre in
-    (s .0, ((sym (few-schedule (lent .before)), sym (few-parents lent)), s .1))
-
-mul-schedule : tie.Need-mul-schedule-2
-mul-schedule c = record { fits = omega (arith, activities-most (c .before .before .before .before .pre .0 .plan)) }
-
-many-part : tie.Need-array-borrow-prefix-schedule-2
-many-part c = omega (arith, activities-most (c .before .before .before .before .pre .0 .plan))
-
-many-schedule : tie.Need-slice-aggregate-lines-in-3
-many-schedule c = sym (length-take-le _ _ (many-part (c .before)))
-
-many-part-2 : tie.Need-array-borrow-prefix-parents-2
-many-part-2 c = activities-most (c .before .before .before .before .before .pre .0 .plan)
-
-many-parents : tie.Need-slice-aggregate-lines-in-4
-many-parents c = sym (length-take-le _ _ (many-part-2 (c .before)))
-
-many-requires : tie.Need-lines-in-requires-2
-many-requires c κs =
-    let lent = c .before .before .before in
-    let s = lent .before .before .before .before .before .before .pre in
-    (s .0, ((sym (many-schedule (lent .before)), sym (many-parents lent)), s .1))
+lines-in-requires-2 : tie.Need-lines-in-requires-2
+lines-in-requires-2 c κs =
+    let many = c .before .before .before .before in
+    let opened = many .before .before .before .pre in
+    (opened, (length-take-le _ _ (omega (arith, most many)), length-take-le _ _ (most many), length-take-le _ _ (omega (arith, most many))))
 
 pub lines-of-spec : {M : Type 1} → statement M
 lines-of-spec =
     tie.close
     (tie.spec
+    (λ c. omega (arith, c .if1 .taken))
+    (λ c. omega (arith, c .if1 .taken))
+    (λ c. sym (length-take-le _ _ (omega (arith, c .before .if1 .taken))))
+    (λ c. c .before .if1 .taken)
+    (λ c. sym (length-take-le _ _ (c .before .before .if1 .taken)))
+    (λ c. omega (arith, c .before .before .if1 .taken))
+    (λ c. omega (arith, c .before .before .if1 .taken))
+    (λ c. sym (length-take-le _ _ (omega (arith, c .before .before .before .if1 .taken))))
+    lines-in-requires
     (λ c. search needs)
     (λ c. search needs)
-    few-schedule
-    (λ c. search needs)
-    few-parents
-    few-requires
-    (λ c. search needs)
-    (λ c. search needs)
-    mul-schedule
-    many-part
-    many-schedule
-    many-part-2
-    many-parents
-    many-requires
+    (λ c. omega (arith, most c))
+    (λ c. omega (arith, most c))
+    (λ c. sym (length-take-le _ _ (omega (arith, most (c .before)))))
+    (λ c. most (c .before))
+    (λ c. sym (length-take-le _ _ (most (c .before .before))))
+    (λ c. omega (arith, most (c .before .before)))
+    (λ c. omega (arith, most (c .before .before)))
+    (λ c. sym (length-take-le _ _ (omega (arith, most (c .before .before .before)))))
+    lines-in-requires-2
     (λ c. search needs)
     (λ c. search needs))

@@ -7,7 +7,7 @@ use mir.Syntax.{w64}
 use Rattle.integer.specs.Linear.{back}
 use Rattle.format.specs.Book.{Budget}
 use Rattle.format.specs.Verdict.{content}
-use Rattle.book.specs.Sections.{budgetOf}
+use Rattle.sections.specs.Sections.{budgetOf}
 use Rattle.model.specs.Budgets.{budgetFor}
 use Rattle.ledger.proofs.Naming.{Naming, naming-none, naming-next, naming-more, naming-end}
 use Rattle.budget.proofs.Sought.{Seeking, seeking-none, seeking-more, seeking-found, seeking-end}

@@ -3,7 +3,7 @@ use mathlib.Core.List.{[]}
 use Prim.Native.Nat.{_+_, _*_, _-_, _≤_}
 use native.Mathlib.Omega.{arith}
 use Rattle.lists.specs.Lists.{consIf}
-use Rattle.bydate.specs.Laid.{sumOf}
+use Rattle.laid.specs.Laid.{sumOf}
 use Rattle.bydate.specs.Pointed.{sumOn, pointsIn}
 use Rattle.bydate.proofs.Writing.{row-most, row-held, Putting, putting-none, putting-more, putting-count, putting-end, points-next, points-end}
 use borrow.Author.Needs.{needs}

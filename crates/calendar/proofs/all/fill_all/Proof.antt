@@ -8,7 +8,7 @@ use Rattle.format.specs.Codec.{alike}
 use Rattle.format.specs.Book.{Calendar}
 use Rattle.format.specs.Format.{calendar}
 use Rattle.format.specs.InRange.{CalendarInRange}
-use Rattle.book.specs.Sections.{elements, alikeIn, calendarOf}
+use Rattle.sections.specs.Sections.{elements, alikeIn, calendarOf}
 use Rattle.calendar.proofs.Parts.{part-length, part-kept, part-end, parts-room, Shown, shown-none, shown-more, Reading, read-length, reading-none, reading-is, reading-more}
 use Rattle.calendar.proofs.all.fill_all.Statement.{statement}
 use Rattle.calendar.proofs.all.fill_all.Tie as tie

@@ -2,7 +2,7 @@
 use mathlib.Core.Path.{_∙_}
 use native.Mathlib.Omega.{arith}
 use borrow.Author.Needs.{needs}
-use Rattle.book.specs.Sections.{calendarOf}
+use Rattle.sections.specs.Sections.{calendarOf}
 use Rattle.calendar.proofs.Overlays.{shows-working}
 use Rattle.calendar.proofs.days.fill_days.Statement.{statement}
 use Rattle.calendar.proofs.days.fill_days.Tie as tie

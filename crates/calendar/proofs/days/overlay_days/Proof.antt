@@ -2,7 +2,7 @@
 use Prim.Native.Nat.{ℕ, _-_}
 use borrow.Author.Needs.{needs}
 use Rattle.format.specs.Format.{rising}
-use Rattle.book.specs.Sections.{elements}
+use Rattle.sections.specs.Sections.{elements}
 use Rattle.calendar.proofs.Overlays.{Overlaying, overlaying-none, overlaying-more, overlaying-end, overlaying-long}
 use Rattle.calendar.proofs.days.overlay_days.Statement.{statement}
 use Rattle.calendar.proofs.days.overlay_days.Tie as tie

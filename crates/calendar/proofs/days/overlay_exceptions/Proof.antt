@@ -4,7 +4,7 @@ use borrow.Author.Needs.{needs}
 use Rattle.format.specs.Book as content
 use Rattle.records.specs.Decoded.{exceptionOf}
 use Rattle.format.specs.Format.{exception}
-use Rattle.book.specs.Sections.{elements}
+use Rattle.sections.specs.Sections.{elements}
 use Rattle.calendar.proofs.Overlays.{Overlaying, overlaying-none, overlaying-more, overlaying-end, overlaying-long}
 use Rattle.calendar.proofs.days.overlay_exceptions.Statement.{statement}
 use Rattle.calendar.proofs.days.overlay_exceptions.Tie as tie

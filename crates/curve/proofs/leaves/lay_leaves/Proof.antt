@@ -7,8 +7,8 @@ use lib.ListN.{length, getD}
 use mir.Syntax.{w64}
 use Rattle.integer.specs.Linear.{back}
 use Rattle.model.specs.Amounts.{spreadOver}
-use Rattle.bydate.specs.Listed.{listedIn}
-use Rattle.bydate.proofs.Laying.{Laying, laid-same}
+use Rattle.laid.specs.Listed.{listedIn}
+use Rattle.laid.proofs.Laying.{Laying, laid-same}
 use Rattle.planned.proofs.Tabling.{span-asked}
 use Rattle.curve.specs.Budgeted.{budgetsLaid}
 use Rattle.curve.proofs.Planning.{laidFrom, leaves-none, leaves-past, leaves-more, leaves-end, span-has}

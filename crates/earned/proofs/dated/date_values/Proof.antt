@@ -1,30 +1,38 @@
--- `date_values` meets its contract: the column of planned value has room for the activities.
-use Prim.Native.Nat.{_≤_}
-use native.Mathlib.Omega.{arith}
-use mathlib.Core.Path.{sym}
-use lib.ListN.{length}
-use lib.Seq.{length-take-le}
+-- `date_values` meets its contract: by a small table, or as of any book.
 use borrow.Author.Needs.{needs}
-use Rattle.format.specs.Verdict.{content}
-use Rattle.book.proofs.Plan.{activities-count, activities-most}
-use Rattle.baseline.proofs.Listing.{budgets-long}
+use Rattle.planned.proofs.Reaching.{reach-few}
 use Rattle.earned.proofs.dated.date_values.Statement.{statement}
 use Rattle.earned.proofs.dated.date_values.Tie as tie
 
-most : (s : tie.Start) → length (s .args .budgets .now) ≤ 500
-most s = let p = s .pre .0 .plan in omega (arith, budgets-long (content (s .args .book .now)) (s .pre .1 .0 .1), activities-count p, activities-most p)
+reach-of-requires : tie.Need-reach-of-requires
+reach-of-requires c κs = let s = c .before .before .pre in (s .0, s .1 .0)
 
-date-by-requires : tie.Need-date-by-requires
-date-by-requires c κs =
-    let s = c .before .before .before .before in
-    (s .pre .0, (s .pre .1 .0, (length-take-le _ _ (most s), s .pre .1 .1)))
+date-any-requires : tie.Need-date-any-requires
+date-any-requires c κs = (c .before .before .reach-of .ensures, c .before .before .before .before .before .pre .1 .1)
+
+fits-small-requires : tie.Need-fits-small-requires
+fits-small-requires c κs = let r = c .before .reach-of .ensures in (r .covers .ahead, r .covers .most, reach-few r)
+
+date-small-requires : tie.Need-date-small-requires
+date-small-requires c κs =
+    let s = c .before .before .before .before .before .before .before .pre in
+    (c .before .before .before .before .reach-of .ensures, (c .before .before .fits-small .ensures (c .before .if2 .taken), s .1 .1))
+
+date-any-requires-2 : tie.Need-date-any-requires-2
+date-any-requires-2 c κs = (c .before .before .before .before .reach-of .ensures, c .before .before .before .before .before .before .before .pre .1 .1)
 
 pub date-values-spec : {M : Type 1} → statement M
 date-values-spec =
     tie.close
     (tie.spec
-    (λ c. most (c .before .before))
-    (λ c. sym (length-take-le _ _ (most (c .before .before .before))))
-    date-by-requires
+    reach-of-requires
+    date-any-requires
+    (λ c. search needs)
+    (λ c. search needs)
+    fits-small-requires
+    date-small-requires
+    (λ c. search needs)
+    (λ c. search needs)
+    date-any-requires-2
     (λ c. search needs)
     (λ c. search needs))

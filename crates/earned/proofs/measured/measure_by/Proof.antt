@@ -8,7 +8,7 @@ use Rattle.format.proofs.Theorems.{content-in-range}
 use Rattle.book.proofs.Plan.{activities-count, activities-most}
 use Rattle.activities.proofs.Scheduling.{schedule-long, schedule-minutes}
 use Rattle.baseline.proofs.Listing.{budgets-long}
-use Rattle.earned.proofs.Measuring.{costs-long}
+use Rattle.tree.proofs.Figured.{own-costs-long}
 use Rattle.earned.proofs.measured.measure_by.Statement.{statement}
 use Rattle.earned.proofs.measured.measure_by.Tie as tie
 
@@ -25,7 +25,7 @@ measure-rows-requires c κs =
       (
         omega (arith, n, schedule-long p (s .pre .1 .0 .0)),
         omega (arith, n, units .units .given, s .pre .1 .1 .0),
-        omega (arith, n, costs-long (content (s .args .book .now)) (s .pre .1 .0 .1), activities-count p),
+        omega (arith, n, own-costs-long (content (s .args .book .now)) (s .pre .1 .0 .1), activities-count p),
         omega (arith, n, s .pre .1 .1 .2),
         omega (arith, n, activities-most p),
       ),

@@ -7,7 +7,7 @@ use Rattle.format.specs.Codec.{alike}
 use Rattle.format.specs.Format.{assignment}
 use Rattle.format.specs.InRange.{AssignmentInRange}
 use Rattle.records.specs.Decoded.{assignmentOf}
-use Rattle.book.specs.Sections.{elements}
+use Rattle.sections.specs.Sections.{elements}
 use Rattle.calendar.proofs.Parts.{Reading, read-length, reading-none, reading-is, reading-more}
 use Rattle.earned.proofs.Adding.{Adding, adding-none, adding-more, adding-end}
 use Rattle.earned.proofs.units.add_assignments.Statement.{statement}

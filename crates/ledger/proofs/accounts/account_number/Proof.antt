@@ -1,6 +1,6 @@
 -- `account_number` meets its contract: a place of the marks.
 use Rattle.fields.specs.Optional.{numberOption}
-use Rattle.book.proofs.Marks.{place-below}
+use Rattle.sections.proofs.Marks.{place-below}
 use borrow.Author.Needs.{needs}
 use Rattle.ledger.proofs.accounts.account_number.Statement.{statement}
 use Rattle.ledger.proofs.accounts.account_number.Tie as tie

@@ -11,7 +11,7 @@ use Rattle.integer.specs.Folds.{saturated}
 use Rattle.format.specs.declared.Pos.{Pos}
 use Rattle.format.specs.Codec.{alike, stay}
 use Rattle.format.specs.Format.{amount}
-use Rattle.book.specs.Sections.{elements}
+use Rattle.sections.specs.Sections.{elements}
 use Rattle.tree.specs.Figures.{saturatingAdd}
 use Rattle.ledger.proofs.Reading.{Reading, reading-none, reading-more, reading-next, reading-end}
 use borrow.Author.Needs.{needs}

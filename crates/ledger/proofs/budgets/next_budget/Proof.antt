@@ -1,6 +1,6 @@
 -- `next_budget` meets its contract: what its name's mark says is whether it is new.
 use mathlib.Core.Path.{ap, _∙_}
-use Rattle.book.specs.Sections.{markOf}
+use Rattle.sections.specs.Sections.{markOf}
 use Rattle.tree.specs.Figures.{isUnmarked}
 use borrow.Author.Needs.{needs}
 use Rattle.ledger.proofs.budgets.next_budget.Statement.{statement}

@@ -6,7 +6,7 @@ use lib.IntN.{ℤ}
 use lib.ListN.{set}
 use mir.Syntax.{w64}
 use Rattle.integer.specs.Linear.{back}
-use Rattle.book.specs.Sections.{budgetOf}
+use Rattle.sections.specs.Sections.{budgetOf}
 use borrow.Author.Needs.{needs}
 use Rattle.ledger.proofs.budgets.take_budget.Statement.{statement}
 use Rattle.ledger.proofs.budgets.take_budget.Tie as tie

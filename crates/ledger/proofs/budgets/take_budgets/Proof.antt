@@ -3,7 +3,7 @@ use Prim.Native.Nat.{ℕ, _-_}
 use mathlib.Core.Path.{ap}
 use lib.ListN.{set}
 use Rattle.format.specs.Verdict.{content}
-use Rattle.book.specs.Sections.{budgetOf}
+use Rattle.sections.specs.Sections.{budgetOf}
 use Rattle.ledger.specs.Accounts.{budgetPlace, budgetTaken, markedBy}
 use Rattle.ledger.proofs.Reading.{Folded, folded-none, folded-more, folded-end}
 use Rattle.ledger.proofs.Naming.{Naming, naming-none, naming-next, naming-more, naming-end}

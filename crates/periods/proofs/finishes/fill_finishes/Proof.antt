@@ -5,8 +5,8 @@ use mathlib.Core.List.{map-id}
 use borrow.Author.Needs.{needs}
 use Rattle.format.specs.Field.{D}
 use Rattle.format.specs.Codec.{field}
-use Rattle.book.specs.Sections.{elements}
-use Rattle.book.proofs.Filled.{Filled, filled-none, filled-more, filled-end}
+use Rattle.sections.specs.Sections.{elements}
+use Rattle.sections.proofs.Filled.{Filled, filled-none, filled-more, filled-end}
 use Rattle.periods.proofs.finishes.fill_finishes.Statement.{statement}
 use Rattle.periods.proofs.finishes.fill_finishes.Tie as tie
 

@@ -5,7 +5,7 @@ use Rattle.periods.proofs.listed.sized_dates.Statement.{statement}
 use Rattle.periods.proofs.listed.sized_dates.Tie as tie
 
 reach-of-requires : tie.Need-reach-of-requires
-reach-of-requires c κs = let s = c .before .before .before .before .pre in (s .0, s .1 .0)
+reach-of-requires c κs = let s = c .before .before .before .pre in (s .0, s .1 .0)
 
 fits-small-requires : tie.Need-fits-small-requires
 fits-small-requires c κs = let r = c .reach-of .ensures in (r .covers .ahead, r .covers .most, reach-few r)
@@ -13,7 +13,7 @@ fits-small-requires c κs = let r = c .reach-of .ensures in (r .covers .ahead, r
 small-dates-requires : tie.Need-small-dates-requires
 small-dates-requires c κs =
     let reach = c .before .before .before in
-    let s = reach .before .before .before .before .before .pre in
+    let s = reach .before .before .before .before .pre in
     (reach .reach-of .ensures, (c .before .before .fits-small .ensures (c .before .if1 .taken), (s .1 .1 .0, s .1 .1 .1)))
 
 same-length : tie.Need-same-length
@@ -25,7 +25,7 @@ returns c = c .before .small-dates .ensures
 full-dates-requires : tie.Need-full-dates-requires
 full-dates-requires c κs =
     let reach = c .before .before .before in
-    let s = reach .before .before .before .before .before .pre in
+    let s = reach .before .before .before .before .pre in
     (reach .reach-of .ensures, (s .1 .1 .0, s .1 .1 .1))
 
 same-length-2 : tie.Need-same-length-2

@@ -10,20 +10,20 @@ use Rattle.periods.proofs.points.take_record.Tie as tie
 add-entry-requires : tie.Need-add-entry-requires
 unfolding periodRecordOf
 add-entry-requires c κs =
-    let s = c .before .before .before .before .before .before in
+    let s = c .before .before .before .before .before in
     (omega (arith, c .before .entry-of .ensures .period, s .pre .0 .1), s .pre .1)
 
 returns : tie.Need-returns
 unfolding periodRecordOf
 returns c =
     let test = c .before .before .before .before in
-    let a = test .before .before .before .before .args in
+    let a = test .before .before .before .args in
     record-taken (a .marks .now) (a .finishes .now) (periodRecordOf (a .x)) (a .figures .now) (eq-eqb _ 0 (test .if1 .taken)) (c .before .before .before .entry-of .ensures) (c .before .add-entry .ensures)
 
 returns-2 : tie.Need-returns-2
 unfolding periodRecordOf
 returns-2 c =
-    let a = c .before .before .before .before .args in
+    let a = c .before .before .before .args in
     record-passed (a .marks .now) (a .finishes .now) (periodRecordOf (a .x)) (a .figures .now) (ne-eqb _ 0 (c .if1 .left))
 
 pub take-record-spec : {M : Type 1} → statement M

@@ -8,7 +8,7 @@ use Rattle.format.specs.Codec.{alike}
 use Rattle.format.specs.Format.{periodRecord}
 use Rattle.format.specs.InRange.{PeriodRecordInRange}
 use Rattle.records.specs.Decoded.{periodRecordOf}
-use Rattle.book.specs.Sections.{elements}
+use Rattle.sections.specs.Sections.{elements}
 use Rattle.calendar.proofs.Parts.{Reading, read-length, reading-none, reading-is, reading-more}
 use Rattle.periods.proofs.Recording.{Recorded, recorded-none, recorded-more, recorded-end}
 use Rattle.periods.proofs.points.take_records.Statement.{statement}
@@ -30,7 +30,7 @@ unfolding elements periodRecordOf
 take-record-requires c κs =
     let read = c .before in
     let loop = read .before .before .loop in
-    let s = read .before .before .before .before .before .before in
+    let s = read .before .before .before .before .before in
     let x = periodRecordOf (read .read-period-record .result) in
     let h = read .before .loop-test .taken in
     let range =
@@ -40,13 +40,13 @@ take-record-requires c κs =
     ((omega (arith, range .activity, s .pre .1 .0), range .period), loop .inv .1 .changed .long ∙ s .pre .1 .1)
 
 add-i : tie.Need-add-i Inv-loop μ-loop
-add-i c = let t = c .before .before .before .before in omega (arith, t .loop-test .taken, t .before .before .before .before .before .good .1 .0)
+add-i c = let t = c .before .before .before .before in omega (arith, t .loop-test .taken, t .before .before .before .before .good .1 .0)
 
 loop-again : tie.Need-loop-again Inv-loop μ-loop
 loop-again c =
     let read = c .before .before .before in
     let loop = read .before .before .loop in
-    let s = read .before .before .before .before .before .before in
+    let s = read .before .before .before .before .before in
     let h = read .before .loop-test .taken in
     let is = reading-is _ _ _ _ (loop .inv .0) h (read .read-period-record .ensures) in (
       reading-more _ _ _ _ (loop .inv .0) h (read .read-period-record .ensures),
@@ -59,7 +59,7 @@ same-length c = c .before .loop .inv .1 .changed .long
 returns : tie.Need-returns Inv-loop μ-loop
 unfolding elements
 returns c =
-    let s = c .before .before .before .before .before in
+    let s = c .before .before .before .before in
     recorded-end (c .before .loop .inv .1) (omega (arith, c .loop-test .left, read-length (periodRecord (length (s .args .finishes .now)) (s .args .activities)) (s .args .book .now) (s .args .list .count) (s .args .list .first)))
 
 pub take-records-spec : {M : Type 1} → statement M

@@ -8,7 +8,7 @@ use mir.Facts.{toZ-ofZ}
 use Rattle.integer.specs.Linear.{back}
 use Rattle.integer.specs.Sums.{ints, sum}
 use Rattle.money.specs.Shares.{shareOf}
-use Rattle.bydate.specs.Listed.{inRow}
+use Rattle.laid.specs.Listed.{inRow}
 use Rattle.planned.specs.Values.{portionOf}
 use Rattle.planned.proofs.Portions.{fewer-up-to, portion-all, portion-some}
 use Rattle.planned.proofs.part.portion.Statement.{statement}

@@ -11,8 +11,8 @@ use Rattle.progress.proofs.own.own_values.Tie as tie
 most : (s : tie.Start) → s .args .opened .plan .activities .count ≤ 500
 most s = activities-most (s .pre .0 .plan)
 
-few-own-requires : tie.Need-few-own-requires
-few-own-requires c κs =
+few-requires : tie.Need-make-own-requires
+few-requires c κs =
     let few = c .before .before .before .before .before in
     let s = few .before .before .before in (
       s .pre .0,
@@ -23,12 +23,12 @@ few-own-requires c κs =
           listedLong = length-take-le _ _ (omega (arith, few .if1 .taken));
           budgetsLong = length-take-le _ _ (few .if1 .taken);
         },
-        (s .pre .1 .1, few .if1 .taken),
+        s .pre .1 .1,
       ),
     )
 
-make-own-requires : tie.Need-make-own-requires
-make-own-requires c κs =
+many-requires : tie.Need-make-own-requires-2
+many-requires c κs =
     let s = c .before .before .before .before .before .before .before .before in (
       s .pre .0,
       (
@@ -54,7 +54,7 @@ own-values-spec =
     (λ c. sym (length-take-le _ _ (omega (arith, c .before .before .before .if1 .taken))))
     (λ c. c .before .before .before .if1 .taken)
     (λ c. sym (length-take-le _ _ (c .before .before .before .before .if1 .taken)))
-    few-own-requires
+    few-requires
     (λ c. search needs)
     (λ c. search needs)
     (λ c. search needs)
@@ -66,7 +66,7 @@ own-values-spec =
     (λ c. sym (length-take-le _ _ (omega (arith, most (c .before .before .before .before .before .before)))))
     (λ c. most (c .before .before .before .before .before .before))
     (λ c. sym (length-take-le _ _ (most (c .before .before .before .before .before .before .before))))
-    make-own-requires
+    many-requires
     (λ c. search needs)
     (λ c. search needs)
     (λ c. search needs))

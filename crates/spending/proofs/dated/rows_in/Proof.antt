@@ -2,7 +2,7 @@
 use native.Mathlib.Omega.{arith}
 use Rattle.format.specs.Verdict.{content}
 use Rattle.model.specs.Costs.{budgetByDay}
-use Rattle.bydate.specs.Laid.{Laid}
+use Rattle.laid.specs.Laid.{Laid}
 use Rattle.spending.proofs.Asking.{asked-calendars, asked-ready, asked-laid, asked-reach, asked-rows}
 use borrow.Author.Needs.{needs}
 use Rattle.spending.proofs.dated.rows_in.Statement.{statement}

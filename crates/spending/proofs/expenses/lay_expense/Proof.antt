@@ -6,9 +6,9 @@ use lib.IntN.{ℤ}
 use mir.Facts.{toZ-ofZ}
 use Rattle.model.specs.Amounts.{on, spreadOver}
 use Rattle.model.specs.Costs.{accrued}
-use Rattle.bydate.specs.Listed.{workedIn, listedIn}
-use Rattle.bydate.proofs.Laying.{laid-same}
-use Rattle.bydate.proofs.Dealing.{listed-some}
+use Rattle.laid.specs.Listed.{workedIn, listedIn}
+use Rattle.laid.proofs.Laying.{laid-same}
+use Rattle.laid.proofs.Dealing.{listed-some}
 use Rattle.spending.proofs.Pricing.{accrued-start, accrued-end}
 use borrow.Author.Needs.{needs}
 use Rattle.spending.proofs.expenses.lay_expense.Statement.{statement}

@@ -2,7 +2,7 @@
 use borrow.Author.Needs.{needs}
 use native.Mathlib.Omega.{arith}
 use mathlib.Core.Path.{_∙_}
-use Rattle.book.specs.Sections.{calendarOf}
+use Rattle.sections.specs.Sections.{calendarOf}
 use Rattle.model.specs.Variances.{workingBetween}
 use Rattle.variances.proofs.Counting.{counted-in}
 use Rattle.variances.proofs.Dating.{calendar-counted, calendar-unused}

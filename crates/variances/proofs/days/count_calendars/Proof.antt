@@ -8,7 +8,7 @@ use Rattle.format.specs.Codec.{alike}
 use Rattle.format.specs.Book.{Calendar}
 use Rattle.format.specs.Format.{calendar}
 use Rattle.format.specs.InRange.{CalendarInRange}
-use Rattle.book.specs.Sections.{elements, alikeIn, calendarOf}
+use Rattle.sections.specs.Sections.{elements, alikeIn, calendarOf}
 use Rattle.model.specs.Lookup.{noCalendar}
 use Rattle.calendar.proofs.Parts.{Reading, read-length, reading-none, reading-is, reading-more}
 use Rattle.variances.proofs.Dating.{Below, below-none, below-length, below-tables, below-reaches, below-more, below-all}

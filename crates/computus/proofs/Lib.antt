@@ -1,0 +1,4 @@
+pub mod Meeus
+pub mod Cases
+pub mod NearEaster
+pub mod Pinned

@@ -1,0 +1,4 @@
+pub mod Lists
+pub mod Filled
+pub mod Limits
+pub mod Marks
