@@ -17,7 +17,7 @@
 extern "C" {
 #endif
 
-#define SURUKEVA_VERSION_MAJOR 1
+#define SURUKEVA_VERSION_MAJOR 2
 #define SURUKEVA_VERSION_MINOR 0
 
 /* Stack that is enough for every call on every book, as measured with the largest tables (docs/BENCHMARKS.md). */
@@ -65,9 +65,9 @@ enum surukeva_refusal {
 #define SURUKEVA_SPENDING_MOST 36525
 #define SURUKEVA_SPENDING_BY_MONTH_WIDTH 2
 #define SURUKEVA_SPENDING_BY_MONTH_MOST 1200
-#define SURUKEVA_EARNED_VALUE_WIDTH 6
+#define SURUKEVA_EARNED_VALUE_WIDTH 7
 #define SURUKEVA_EARNED_VALUE_MOST 500
-#define SURUKEVA_PROJECT_EARNED_WIDTH 6
+#define SURUKEVA_PROJECT_EARNED_WIDTH SURUKEVA_EARNED_VALUE_WIDTH
 #define SURUKEVA_PROJECT_EARNED_MOST 1
 #define SURUKEVA_PLANNED_CURVE_WIDTH 2
 #define SURUKEVA_PLANNED_CURVE_MOST 36525
@@ -105,11 +105,11 @@ uint64_t surukeva_spending(const uint8_t *book, size_t len, uint64_t from, uint6
 /* Two numbers for each month that something is charged in: its first date and the amount. */
 uint64_t surukeva_spending_by_month(const uint8_t *book, size_t len, uint64_t *out, size_t out_len, uint64_t *at);
 
-/* Six numbers for each activity at the status date `date`: its budget, planned value, earned value, actual and remaining cost, and
-   what is spent of the budget, in hundredths of a percent. */
+/* Seven numbers for each activity at the status date `date`: its budget, planned value, earned value, actual and remaining cost; then
+   what is spent of the budget: 0 and 0 where the budget is 0, else 1 and the share in hundredths of a percent. */
 uint64_t surukeva_earned_value(const uint8_t *book, size_t len, uint64_t date, uint64_t *out, size_t out_len, uint64_t *at);
 
-/* The same six numbers of the leaves, added up; what is spent is of the sums. */
+/* The same seven numbers of the leaves, added up; what is spent is of the sums. */
 uint64_t surukeva_project_earned(const uint8_t *book, size_t len, uint64_t date, uint64_t *out, size_t out_len, uint64_t *at);
 
 /* Two numbers for each date from `from` to `to` that a leaf lists: the date and the planned value up to it. */

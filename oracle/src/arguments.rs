@@ -55,15 +55,16 @@ impl Random {
         if self.one_in(2) { (b, a) } else { (a, b) }
     }
 
-    /// Actual and budget, often with a quotient at an end of 64 bits.
+    /// Actual and budget, often with a quotient at an end of 64 bits, or without a budget.
     pub fn actual_and_budget(&mut self) -> (i64, i64) {
         let (a, b) = (self.any_amount(), self.any_amount());
         let small = self.signed_within(-1_000, 1_000);
         let end = self.pick(&[i64::MAX, i64::MIN]);
         let product = i128::from(end) * i128::from(small) / 10_000;
-        match (self.below(4), i64::try_from(product)) {
+        match (self.below(6), i64::try_from(product)) {
             (0, Ok(actual)) => (actual.saturating_add(self.signed_within(-2, 2)), small),
             (1, _) => (a, small),
+            (2, _) => (a, 0),
             _ => (a, b),
         }
     }

@@ -32,6 +32,9 @@ const DATE: &[Asked] = &[Asked::Date];
 const DATES: &[Asked] = &[Asked::Date, Asked::Date];
 const ACTIVITY_AND_DATE: &[Asked] = &[Asked::Activity, Asked::Date];
 
+/// The numbers of a row of earned value: five figures, then what is spent, which may be absent.
+pub const EARNED_WIDTH: usize = 7;
+
 /// Every call.
 pub const CALLS: [Call; 16] = [
     Call { name: "verdict", asked: NOTHING, width: 0, rows: |_, _| Vec::new() },
@@ -39,8 +42,8 @@ pub const CALLS: [Call; 16] = [
     Call { name: "project_cost", asked: NOTHING, width: 3, rows: project_cost_row },
     Call { name: "actual_by_kind", asked: NOTHING, width: 6, rows: kind_rows },
     Call { name: "spending", asked: DATES, width: 2, rows: spending_rows },
-    Call { name: "earned_value", asked: DATE, width: 6, rows: earned_rows },
-    Call { name: "project_earned", asked: DATE, width: 6, rows: project_earned_row },
+    Call { name: "earned_value", asked: DATE, width: EARNED_WIDTH, rows: earned_rows },
+    Call { name: "project_earned", asked: DATE, width: EARNED_WIDTH, rows: project_earned_row },
     Call { name: "planned_curve", asked: DATES, width: 2, rows: curve_rows },
     Call { name: "performance", asked: ACTIVITY, width: 1, rows: performance_row },
     Call { name: "indices", asked: ACTIVITY_AND_DATE, width: 9, rows: indices_row },
@@ -121,17 +124,17 @@ fn cost(c: &Cost) -> [u64; 3] {
     [c.budget, c.actual, c.remaining].map(|v| v as u64)
 }
 
-/// Actual × 10,000 / budget toward zero; outside 64 bits the greatest number, 0 for budget 0.
-pub fn spent(actual: i64, budget: i64) -> i64 {
-    match i128::from(budget) {
-        0 => 0,
-        budget => i64::try_from(i128::from(actual) * 10_000 / budget).unwrap_or(i64::MAX),
-    }
+/// Actual × 10,000 / budget toward zero; outside 64 bits the greatest number, none for budget 0.
+pub fn spent(actual: i64, budget: i64) -> Option<i64> {
+    let share = (i128::from(actual) * 10_000).checked_div(i128::from(budget))?;
+    Some(i64::try_from(share).unwrap_or(i64::MAX))
 }
 
-fn earned(e: &Earned) -> [u64; 6] {
-    [e.budget, e.planned, e.earned, e.actual, e.remaining, spent(e.actual, e.budget)]
-        .map(|v| v as u64)
+fn earned(e: &Earned) -> [u64; EARNED_WIDTH] {
+    let [present, share] = optional(spent(e.actual, e.budget).map(|share| share as u64));
+    let [budget, planned, earned, actual, remaining] =
+        [e.budget, e.planned, e.earned, e.actual, e.remaining].map(|v| v as u64);
+    [budget, planned, earned, actual, remaining, present, share]
 }
 
 fn points(points: Vec<(Date, i64)>) -> Vec<u64> {

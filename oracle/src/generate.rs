@@ -6,8 +6,9 @@ use crate::encode::{encode, groups};
 use crate::random::{Random, Size};
 
 /// The kinds of accepted book that the Rust answers quickly, the smallest first.
-const QUICK: [&str; 9] =
-    ["small", "ends", "tree", "calendar", "money", "periods", "long", "large", "programme"];
+const QUICK: [&str; 10] = [
+    "small", "ends", "offset", "tree", "calendar", "money", "periods", "long", "large", "programme",
+];
 /// The others; `any` is one of the quick ones, `example` is document 01's, whatever the seed.
 const OTHERS: [&str; 4] = ["full", "worst", "any", "example"];
 
@@ -22,9 +23,10 @@ pub fn book(kind: &str, seed: u64) -> Option<Book> {
     let book = match kind {
         "any" => {
             let small = random.one_in(2);
-            let kind = if small { random.pick(&QUICK[..4]) } else { random.pick(&QUICK) };
+            let kind = if small { random.pick(&QUICK[..5]) } else { random.pick(&QUICK) };
             return book(kind, random.number());
         }
+        "offset" => offset(&mut random),
         "full" => full(&mut random),
         "worst" => worst(&mut random),
         "programme" => crate::programme::book(&mut random),
@@ -54,6 +56,23 @@ pub fn example() -> Book {
         expenses: vec![expense],
         ..Default::default()
     }
+}
+
+/// A small book with budgets from expenses alone: often none, or one that takes the one before back.
+fn offset(random: &mut Random) -> Book {
+    let mut book = book("small", random.number()).unwrap_or_default();
+    book.assignments.clear();
+    book.baseline = None;
+    let mut before = 0i64;
+    for expense in &mut book.expenses {
+        expense.planned = match random.below(3) {
+            0 => 0,
+            1 => before.saturating_neg(),
+            _ => expense.planned,
+        };
+        before = expense.planned;
+    }
+    book
 }
 
 /// What a call is asked: mostly what the book has, at times what it has not.

@@ -8,7 +8,7 @@ use std::hint::black_box;
 use std::time::Instant;
 
 use crate::book::{FIRST_DAY, LAST_DAY};
-use crate::calls::{Answer, Call};
+use crate::calls::{Answer, Call, EARNED_WIDTH};
 use crate::leaf as rust;
 use crate::random::Random;
 
@@ -97,7 +97,7 @@ leaves! {
     "parts_priced" parts_priced(units: i64, price: i64) -> i64;
         |r| r.factors(100), |(u, p)| rust::priced(u, p), |(u, p)| parts_priced(u, p);
     "parts_spent" parts_spent(actual: i64, budget: i64) -> i64;
-        Random::actual_and_budget, |(a, b)| rust::spent(a, b), |(a, b)| parts_spent(a, b);
+        Random::actual_and_budget, |(a, b)| rust::spent(a, b).unwrap_or(NONE), |(a, b)| parts_spent(a, b);
     "parts_share" parts_share(amount: i64, n: u64, k: u64) -> i64;
         |r| { let (a, n, k) = r.shares(); (a, n, k.min(n - 1)) },
         |(a, n, k)| rust::share(a, n, k), |(a, n, k)| parts_share(a, n, k);
@@ -242,26 +242,36 @@ impl Status {
         if number != 0 {
             return format!("refused {number} {count}\n");
         }
-        for (index, row) in lent.chunks(6).take(count as usize).enumerate() {
+        for (index, row) in lent.chunks(EARNED_WIDTH).take(count as usize).enumerate() {
             text.push_str(&index.to_string());
-            figures(&mut text, row);
+            earned(&mut text, row);
         }
         self.total.answer(book, &[day], lent);
         text.push_str("total");
-        figures(&mut text, &lent[..6]);
+        earned(&mut text, &lent[..EARNED_WIDTH]);
         let (_, count) = self.curve.answer(book, &[FIRST_DAY, LAST_DAY], lent);
         for point in lent.chunks(2).take(count as usize) {
             text.push_str(&point[0].to_string());
             figures(&mut text, &point[1..]);
+            text.push('\n');
         }
         text
     }
 }
 
-/// Signed numbers, each behind a blank, and the line's end.
+/// Signed numbers, each behind a blank.
 fn figures(text: &mut String, numbers: &[u64]) {
     for number in numbers {
         write!(text, " {}", *number as i64).expect("text takes all");
+    }
+}
+
+/// The five figures of a row of earned value, what is spent, and the line's end.
+fn earned(text: &mut String, row: &[u64]) {
+    figures(text, &row[..5]);
+    match row[5] {
+        0 => text.push_str(" -"),
+        _ => figures(text, &row[6..]),
     }
     text.push('\n');
 }

@@ -31,6 +31,6 @@ fn accepted(s: &Stage) -> String {
 }
 
 fn figures(e: &Earned) -> String {
-    let spent = spent(e.actual, e.budget);
+    let spent = spent(e.actual, e.budget).map_or("-".into(), |share| share.to_string());
     format!("{} {} {} {} {} {spent}", e.budget, e.planned, e.earned, e.actual, e.remaining)
 }

@@ -29,7 +29,7 @@ pub const LEAVES: [Leaf; 24] = [
     }),
     ("spent", |r| {
         let (actual, budget) = r.actual_and_budget();
-        format!("{actual} {budget} = {}", leaf::spent(actual, budget))
+        format!("{actual} {budget} = {}", optional(leaf::spent(actual, budget)))
     }),
     ("share", |r| {
         let (amount, n, k) = r.shares();

@@ -71,9 +71,14 @@ plannedCurveRows from to book = map pointRow (plannedCurveBetween book from to)
 
 -- ---- earned value
 
--- the five figures, and what is spent of the budget
+-- how many numbers a row of earned value has: `EARNED_WIDTH` of src/lib.rt
+abbrev pub earnedWidth : ℕ
+earnedWidth = 7
+
+-- the five figures, then what is spent of the budget, if there is a budget
 unfoldable pub earnedRow : Earned → List ℕ
-earnedRow e = bits (e .budget) ∷ bits (e .planned) ∷ bits (e .earned) ∷ bits (e .actual) ∷ bits (e .remaining) ∷ bits (spentIn e) ∷ []
+earnedRow e =
+    bits (e .budget) ∷ bits (e .planned) ∷ bits (e .earned) ∷ bits (e .actual) ∷ bits (e .remaining) ∷ optional (Option·map bits (spentIn e))
 
 -- a row for each activity, at a status date
 unfoldable pub earnedValueRows : ℕ → Book → Rows

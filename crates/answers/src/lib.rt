@@ -11,6 +11,9 @@ pub const DATE_OUT_OF_RANGE: u64 = 9;
 
 pub const TOO_SHORT: u64 = 10;
 
+// The numbers of a row of earned value: `earnedWidth` of specs/Rows.antt.
+pub const EARNED_WIDTH: usize = 7;
+
 // Accepted, with the count of rows, or the refusal, its number and its place.
 pub enum Reply {
     Accepted(u64),

@@ -23,7 +23,7 @@ use Rattle.lists.proofs.Spans.{made-length, made-at}
 use Rattle.model.specs.declared.Earned.{Earned}
 use Rattle.lists.specs.Lists.{span}
 use Rattle.model.specs.Amounts.{Dated, on}
-use Rattle.model.specs.Tree.{parents, indices}
+use Rattle.model.specs.Tree.{parents}
 use Rattle.model.specs.Planned.{plannedCurveBetween}
 use Rattle.model.specs.Earned.{earnedAt, earnedValue, projectEarned}
 use Rattle.model.specs.Demand.{NoOwnAncestor, SmallBudgets, PlannedValue}
@@ -33,34 +33,35 @@ use Rattle.model.proofs.Curve.{curve-fits}
 use Rattle.model.proofs.Demand.{Reads, planned-value-read}
 use Rattle.model.proofs.Tree.{parents-count}
 use Rattle.answers.specs.declared.Reply.the-variants.{Accepted, Refused}
-use Rattle.answers.specs.Rows.{Rows, pointRow, earnedRow, earnedValueRows, projectEarnedRows, plannedCurveRows}
+use Rattle.answers.specs.Rows.{Rows, pointRow, earnedWidth, earnedRow, earnedValueRows, projectEarnedRows, plannedCurveRows}
 use Rattle.answers.specs.Calls.{Condition, isDate, checked, Met, fitted, replyAt, replyPlace, reply, left}
 use Rattle.answers.proofs.Replies.{met, none-asked}
-use Rattle.answers.proofs.Sized.{sized, one-sized}
+use Rattle.answers.proofs.Sized.{sized}
+use Rattle.answers.proofs.SizedEarned.{row-wide, values-sized, project-sized}
 use Rattle.answers.proofs.Accepted.{accepted-book, accepted-count, accepted-lent, number-is, figure-is}
 use Rattle.engine.specs.Demand.{numberAt, pointIn, LentAt, IsAccepted, atDate, between, earnedReply, projectReply, curveReply, AllAccepted, HasRoom, HasCurveRoom, lentReading, lentCurve}
 
 -- ---- the calls at a status date
-module _ (s : List ℕ) (at : LentAt) (k : ℕ) (l : k < 6) (f : Earned → ℤ) (put : (e : Earned) → getD (earnedRow e) k 0 ≡ bits (f e)) where
+module _ (s : List ℕ) (at : LentAt) (k : ℕ) (l : k < earnedWidth) (f : Earned → ℤ) (put : (e : Earned) → getD (earnedRow e) k 0 ≡ bits (f e)) where
   earned-read :
       IsAccepted (earnedReply s at) → (i : ℕ) → i < length (content s .activities) → SFits w64 (f (earnedAt (content s) (at .date) i)) →
-      ofBits (numberAt 6 (left (atDate (at .date)) (earnedValueRows (at .date)) s (at .earned)) i k) ≡ f (earnedAt (content s) (at .date) i)
-  unfolding earnedRow earnedValueRows earnedValue
+      ofBits (numberAt earnedWidth (left (atDate (at .date)) (earnedValueRows (at .date)) s (at .earned)) i k) ≡ f (earnedAt (content s) (at .date) i)
+  unfolding earnedValueRows earnedValue
   earned-read a i h fits =
       let row : ℕ → Earned = earnedAt (content s) (at .date) in
       let n = length (parents (content s)) in
       let here : i < n = omega (arith, parents-count (content s)) in
-      ap (λ (out : List ℕ). ofBits (numberAt 6 out i k)) (accepted-lent (atDate (at .date)) (earnedValueRows (at .date)) s (at .earned) (a .1))
-      ∙ figure-is 6 earnedRow (λ e. refl) k l f put (earnedValue (content s) (at .date)) (row 0) _ i (omega (arith, made-length row n)) (row i) (made-at row (row 0) n i here) fits
+      ap (λ (out : List ℕ). ofBits (numberAt earnedWidth out i k)) (accepted-lent (atDate (at .date)) (earnedValueRows (at .date)) s (at .earned) (a .1))
+      ∙ figure-is earnedWidth earnedRow row-wide k l f put (earnedValue (content s) (at .date)) (row 0) _ i (omega (arith, made-length row n)) (row i) (made-at row (row 0) n i here) fits
 
   project-read :
       IsAccepted (projectReply s at) → SFits w64 (f (projectEarned (content s) (at .date))) →
-      ofBits (numberAt 6 (left (atDate (at .date)) (projectEarnedRows (at .date)) s (at .project)) 0 k) ≡ f (projectEarned (content s) (at .date))
-  unfolding earnedRow projectEarnedRows
+      ofBits (numberAt earnedWidth (left (atDate (at .date)) (projectEarnedRows (at .date)) s (at .project)) 0 k) ≡ f (projectEarned (content s) (at .date))
+  unfolding projectEarnedRows
   project-read a fits =
       let row = projectEarned (content s) (at .date) in
-      ap (λ (out : List ℕ). ofBits (numberAt 6 out 0 k)) (accepted-lent (atDate (at .date)) (projectEarnedRows (at .date)) s (at .project) (a .1))
-      ∙ figure-is 6 earnedRow (λ e. refl) k l f put (row ∷ []) row _ 0 (omega arith) row refl fits
+      ap (λ (out : List ℕ). ofBits (numberAt earnedWidth out 0 k)) (accepted-lent (atDate (at .date)) (projectEarnedRows (at .date)) s (at .project) (a .1))
+      ∙ figure-is earnedWidth earnedRow row-wide k l f put (row ∷ []) row _ 0 (omega arith) row refl fits
 
 pub reads : (s : List ℕ) → InRange (content s) → (at : LentAt) → IsAccepted (earnedReply s at) → IsAccepted (projectReply s at) → Reads (content s) (lentReading s at)
 unfolding earnedRow
@@ -118,19 +119,15 @@ module _ (s : List ℕ) {j : ℕ} (v : verdict s ≡ At j) where
   dated date d = met d none-asked
 
   earned-accepted : (at : LentAt) → isDate (at .date) ≡ true → HasRoom s at → IsAccepted (earnedReply s at)
-  unfolding earnedValueRows earnedRow earnedValue
   earned-accepted at d room =
       let b = content s in
-      let rows = map (earnedAt b (at .date)) (indices (parents b)) in
-      let many : length rows ≡ length (b .activities) = made-length (earnedAt b (at .date)) (length (parents b)) ∙ parents-count b in
       accepted-call (atDate (at .date)) (earnedValueRows (at .date)) s (length (at .earned)) v (dated (at .date) d)
-      (omega (arith, sized earnedRow 6 (λ e. refl) rows (length (b .activities)) many .long, room .forActivities))
+      (omega (arith, values-sized (at .date) b (length (b .activities)) refl .long, room .forActivities))
 
   project-accepted : (at : LentAt) → isDate (at .date) ≡ true → HasRoom s at → IsAccepted (projectReply s at)
-  unfolding projectEarnedRows earnedRow
   project-accepted at d room =
       accepted-call (atDate (at .date)) (projectEarnedRows (at .date)) s (length (at .project)) v (dated (at .date) d)
-      (omega (arith, one-sized (earnedRow (projectEarned (content s) (at .date))) 6 refl .long, room .forProject))
+      (omega (arith, project-sized (at .date) (content s) .long, room .forProject))
 
   curve-accepted : (to : ℕ) (lent : List ℕ) → isDate to ≡ true → HasCurveRoom s to lent → IsAccepted (curveReply s to lent)
   unfolding plannedCurveRows isDate

@@ -1,5 +1,5 @@
 -- The client's third demand on document 01's example: what it asks for is met, so that it says something.
-use Prim.Native.Nat.{ℕ, zero, suc, _<_}
+use Prim.Native.Nat.{ℕ, zero, suc, _*_, _<_}
 use mathlib.Core.Path.{_≡_, refl, sym, ap, _∙_, subst}
 use mathlib.Core.Bool.{true}
 use mathlib.Core.List.{List, [], _∷_}
@@ -24,6 +24,7 @@ use Rattle.model.specs.Planned.{plannedCurveBetween}
 use Rattle.model.specs.Earned.{noEarned, earnedAt, earnedValue}
 use Rattle.model.specs.Demand.{NoOwnAncestor, SmallBudgets, PlannedValue}
 use Rattle.model.proofs.Example.{example-earned, example-curve}
+use Rattle.answers.specs.Rows.{earnedWidth}
 use Rattle.answers.specs.Calls.{isDate}
 use Rattle.engine.specs.Demand.{LentAt, AllAccepted, HasRoom, HasCurveRoom, lentReading, lentCurve}
 use Rattle.engine.proofs.Demand.{reads, all-accepted, planned-value-accepted}
@@ -31,7 +32,7 @@ use Rattle.engine.proofs.Demand.{reads, all-accepted, planned-value-acc
 -- ---- the calls: at its data date and at the last date of all, with just as much lent as they need
 
 abbrev lentAt : ℕ → LentAt
-lentAt date = record { date = date; earned = replicate 12 0; project = replicate 6 0 }
+lentAt date = record { date = date; earned = replicate (2 * earnedWidth) 0; project = replicate earnedWidth 0 }
 
 abbrev curve : List ℕ
 curve = replicate 6 0
@@ -49,7 +50,7 @@ activities : length (content bytes .activities) ≡ 2
 activities = ap (λ (b : Book). length (b .activities)) (read-back .0)
 
 enough : (date : ℕ) → HasRoom bytes (lentAt date)
-enough date = record { forActivities = rw (activities, length-replicate {A = ℕ} 12 0) (omega arith); forProject = rw (length-replicate {A = ℕ} 6 0) (omega arith) }
+enough date = record { forActivities = rw (activities, length-replicate {A = ℕ} (2 * earnedWidth) 0) (omega arith); forProject = rw (length-replicate {A = ℕ} earnedWidth 0) (omega arith) }
 
 curve-enough : HasCurveRoom bytes 47481 curve
 curve-enough =

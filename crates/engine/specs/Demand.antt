@@ -12,7 +12,7 @@ use Rattle.model.specs.Planned.{plannedCurveBetween}
 use Rattle.model.specs.Demand.{Reading}
 use Rattle.answers.specs.declared.Reply.{Reply}
 use Rattle.answers.specs.declared.Reply.the-variants.{Accepted}
-use Rattle.answers.specs.Rows.{earnedValueRows, projectEarnedRows, plannedCurveRows}
+use Rattle.answers.specs.Rows.{earnedWidth, earnedValueRows, projectEarnedRows, plannedCurveRows}
 use Rattle.answers.specs.Calls.{Condition, dateAsked, reply, left, replyPlace}
 
 -- ---- the numbers of a row
@@ -21,12 +21,12 @@ use Rattle.answers.specs.Calls.{Condition, dateAsked, reply, left, replyPlace}
 abbrev pub numberAt : ℕ → List ℕ → ℕ → ℕ → ℕ
 numberAt width out i k = getD out (i * width + k) 0
 
--- of an `Earned` row, which has six: number 0 is the budget, number 1 the planned value
+-- of an `Earned` row: number 0 is the budget, number 1 the planned value
 abbrev pub budgetIn : List ℕ → ℕ → ℤ
-budgetIn out i = ofBits (numberAt 6 out i 0)
+budgetIn out i = ofBits (numberAt earnedWidth out i 0)
 
 abbrev pub plannedIn : List ℕ → ℕ → ℤ
-plannedIn out i = ofBits (numberAt 6 out i 1)
+plannedIn out i = ofBits (numberAt earnedWidth out i 1)
 
 -- of a curve's row, which has two: number 0 is the date, number 1 the figure
 abbrev pub pointIn : List ℕ → ℕ → Dated
@@ -70,10 +70,10 @@ module _ (s : List ℕ) where
     pub projectAtE : IsAccepted (projectReply E)
     pub curveToE : IsAccepted (curveReply (E .date) curve)
 
-  -- what is lent is enough: six numbers for each activity, six for the project
+  -- what is lent is enough: an `Earned` row for each activity, one for the project
   pub record HasRoom (at : LentAt) : Type 0 where
-    pub forActivities : length (content s .activities) * 6 ≤ length (at .earned)
-    pub forProject : 6 ≤ length (at .project)
+    pub forActivities : length (content s .activities) * earnedWidth ≤ length (at .earned)
+    pub forProject : earnedWidth ≤ length (at .project)
 
   -- and two for each point of the curve up to a date
   abbrev pub HasCurveRoom : ℕ → List ℕ → Type 0

@@ -1,16 +1,13 @@
--- Numbers as an `i64` holds them: those up to the limit, and zero by its bits. Assumes nothing.
-use mathlib.Core.Path.{_≡_, refl, ap, _∙_}
-use mathlib.Core.Bool.{true, false}
-use Prim.Native.Nat.{ℕ, zero, suc, _-_, _^_, _≤_, _<_}
+-- Numbers up to the limit, as an `i64` holds them. Assumes nothing.
+use mathlib.Core.Path.{_≡_, ap, _∙_}
+use Prim.Native.Nat.{ℕ, zero, suc, _≤_}
 use native.Mathlib.Nat.{le-suc, le-trans, lt-of-le-of-lt}
-use native.Mathlib.Omega.{arith}
 use lib.Dec.{lit<}
-use lib.IntN.{ℤ, pos, negsuc, negℤ, _-ℤ_, +ℤ-idl}
+use lib.IntN.{ℤ, pos, negℤ, _-ℤ_, +ℤ-idl}
 use mir.Syntax.{w64}
-use mir.Val.{SFits, toZ, ofZ}
+use mir.Val.{SFits, toZ}
 use mir.Facts.{toZ-pos}
 use Rattle.floats.specs.Rounding.{limit}
-use Rattle.floats.specs.Figures.{isZero}
 
 pub pos-fits : {n : ℕ} → n ≤ limit → SFits w64 (pos n)
 pos-fits h = record { sfits = lt-of-le-of-lt h (lit< tt) }
@@ -25,19 +22,3 @@ as-signed h = toZ-pos w64 (lt-of-le-of-lt h (lit< tt))
 -- 0 - n
 pub from-zero : (n : ℕ) → n ≤ limit → pos 0 -ℤ toZ w64 n ≡ negℤ (pos n)
 from-zero n h = ap (λ (z : ℤ). pos 0 -ℤ z) (as-signed h) ∙ +ℤ-idl (negℤ (pos n))
-
-pub zero-bits : (z : ℤ) → SFits w64 z → ofZ w64 z ≡ 0 → isZero z ≡ true
-zero-bits (pos zero) f h = refl
-zero-bits (pos (suc n)) f h = absurd (never n h)
-  where
-    never : (n : ℕ) → suc n ≡ 0 → ⊥
-    never n h = omega arith
-zero-bits (negsuc n) f h = absurd (never n (f .sfits) h)
-  where
-    never : (n : ℕ) → n < 2 ^ 63 → 2 ^ 64 - suc n ≡ 0 → ⊥
-    never n l h = omega arith
-
-pub nonzero-bits : (z : ℤ) → (ofZ w64 z ≡ 0 → ⊥) → isZero z ≡ false
-nonzero-bits (pos zero) h = absurd (h refl)
-nonzero-bits (pos (suc n)) h = refl
-nonzero-bits (negsuc n) h = refl

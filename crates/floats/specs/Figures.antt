@@ -1,8 +1,9 @@
 -- Earned value's figures that are worked out in floats. Definitions only.
-use Prim.Native.Nat.{ℕ, zero, suc}
-use mathlib.Core.Bool.{Bool, true, false, cond, _&&_}
-use lib.IntN.{ℤ, pos, negsuc}
+use Prim.Native.Nat.{ℕ}
+use mathlib.Core.Bool.{true, false, cond, _&&_}
+use lib.IntN.{ℤ, pos}
 use lib.Ieee.{Float, fin, binary64, mul, div, lt, toBits}
+use Rattle.integer.specs.Signs.{isZero}
 use Rattle.floats.specs.Rounding.{nearestOf, wholeOf}
 use Rattle.floats.specs.declared.Index.{Index}
 
@@ -18,11 +19,6 @@ one = fin false 1 (pos 0)
 
 abbrev pub tenThousand : Float
 tenThousand = fin false 625 (pos 4)
-
-abbrev pub isZero : ℤ → Bool
-isZero (pos zero) = true
-isZero (pos (suc n)) = false
-isZero (negsuc n) = false
 
 abbrev pub noIndex : Index
 noIndex = record { present = false; value = nought }

@@ -12,9 +12,9 @@ use lib.Ieee.{Float, nan, inf, fin, binary64, up, down, unlike, round, div, ofIn
 use lib.Ieee.Exact.{HasValue}
 use mir.Syntax.{w64}
 use mir.Val.{SFits}
-use Rattle.integer.specs.Signs.{negative}
+use Rattle.integer.specs.Signs.{negative, isZero}
 use Rattle.floats.specs.Rounding.{nearestOf}
-use Rattle.floats.specs.Figures.{isZero, ratioOf}
+use Rattle.floats.specs.Figures.{ratioOf}
 use Rattle.formulas.specs.Exact.{Fraction, quotient, integer, value, _÷_, gap, Small, NearestFloat, Close, NearestIndex}
 use Rattle.formulas.proofs.Distance.{distance, same-sign}
 use Rattle.formulas.proofs.Errors.{Moderate, moderate, larger, moderate-near, quotient as divided}

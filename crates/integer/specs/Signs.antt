@@ -1,13 +1,13 @@
--- Signs: a number from a sign and a magnitude, and a magnitude with the sign of another number. Assumes nothing.
+-- Signs: a number from a sign and a magnitude, a magnitude with the sign of another number, and whether a number is 0. Assumes nothing.
 use mathlib.Core.Path.{_≡_, refl, sym, ap, _∙_, subst}
 use mathlib.Core.Bool.{Bool, true, false}
-use Prim.Native.Nat.{ℕ, _+_, _≤_, zero-le}
+use Prim.Native.Nat.{ℕ, zero, suc, _+_, _-_, _^_, _≤_, _<_, zero-le}
 use native.Mathlib.Omega.{arith}
 use lib.Dec.{leb·suc-zero}
 use lib.IntN.{ℤ, pos, negsuc, negℤ, natAbs, _+ℤ_, _-ℤ_, negℤ-+ℤ}
 use lib.Signed.{ltZ, _≤ℤ_}
-use mir.Syntax.{Width}
-use mir.Val.{SFits}
+use mir.Syntax.{Width, w64}
+use mir.Val.{SFits, ofZ}
 use mir.ValLaws.{toZ-ofZ}
 use Rattle.integer.specs.Linear.{plus, minus, linear, dif, abs, apart, neg-plus, neg-minus, fits-in, seen}
 
@@ -15,6 +15,11 @@ use Rattle.integer.specs.Linear.{plus, minus, linear, dif, abs, apart, n
 abbrev pub negative : ℤ → Bool
 negative (pos n) = false
 negative (negsuc n) = true
+
+abbrev pub isZero : ℤ → Bool
+isZero (pos zero) = true
+isZero (pos (suc n)) = false
+isZero (negsuc n) = false
 
 -- −n where the sign is true, else n
 abbrev pub withSign : Bool → ℕ → ℤ
@@ -58,6 +63,23 @@ like-is h n = ap (λ (b : Bool). withSign b n) (sign-is h)
 pub like-fits : {w : Width} {z : ℤ} → SFits w z → {n : ℕ} → n ≤ natAbs z → SFits w (like z n)
 like-fits {w} {z = pos a} h {n} k = record { sfits = omega (arith, h .sfits) }
 like-fits {w} {z = negsuc a} h {n} k = omega (arith, fits-in, neg-parts n, h .sfits)
+
+-- zero by its bits
+pub zero-bits : (z : ℤ) → SFits w64 z → ofZ w64 z ≡ 0 → isZero z ≡ true
+zero-bits (pos zero) f h = refl
+zero-bits (pos (suc n)) f h = absurd (never n h)
+  where
+    never : (n : ℕ) → suc n ≡ 0 → ⊥
+    never n h = omega arith
+zero-bits (negsuc n) f h = absurd (never n (f .sfits) h)
+  where
+    never : (n : ℕ) → n < 2 ^ 63 → 2 ^ 64 - suc n ≡ 0 → ⊥
+    never n l h = omega arith
+
+pub nonzero-bits : (z : ℤ) → (ofZ w64 z ≡ 0 → ⊥) → isZero z ≡ false
+nonzero-bits (pos zero) h = absurd (h refl)
+nonzero-bits (pos (suc n)) h = refl
+nonzero-bits (negsuc n) h = refl
 
 -- ---- laws
 pub like-zero : (z : ℤ) → like z 0 ≡ pos 0

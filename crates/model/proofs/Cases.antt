@@ -146,7 +146,7 @@ first-of-two = refl
 
 -- ---- activities of one day, under any calendar
 
-abbrev activity : Option ℕ → Status → ℕ → ℕ → Option ℕ → Option ℕ → Activity
+abbrev pub activity : Option ℕ → Status → ℕ → ℕ → Option ℕ → Option ℕ → Activity
 activity parent status start finish actualStart actualFinish =
     record {
       parent = parent;
@@ -180,7 +180,7 @@ bookBy technique calendar dataDate activities resources assignments expenses =
       records = [];
     }
 
-abbrev book : Calendar → Option ℕ → List Activity → List Resource → List Assignment → List Expense → Book
+abbrev pub book : Calendar → Option ℕ → List Activity → List Resource → List Assignment → List Expense → Book
 book = bookBy Physical
 
 abbrev at100 : ResourceKind → Resource

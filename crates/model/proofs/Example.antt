@@ -1,7 +1,7 @@
 -- Document 01's example book: what its activities cost, their earned value, the planned curve.
 use mathlib.Core.Path.{_≡_, refl, ap}
 use mathlib.Core.List.{List, [], _∷_, flatMap, zipWith}
-use mathlib.Core.Option.{orElse}
+use mathlib.Core.Option.{orElse, some}
 use native.Mathlib.Omega.{arith}
 use lib.Ieee.{ofInt, mul, div, lt}
 use lib.IntN.{pos}
@@ -91,7 +91,7 @@ pub example-total : projectEarned example 19724 ≡ row
 unfolding projectEarned earnedAt leaves isLeaf rollUp brought walkUp walk steps parents any span keep flatMap
 example-total = rw (own-rows .1)
 
-pub example-spent : spentIn row ≡ pos 4000
+pub example-spent : spentIn row ≡ some (pos 4000)
 unfolding scaledBy inRange
 example-spent = refl
 

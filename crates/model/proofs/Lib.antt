@@ -17,6 +17,7 @@ pub mod EarnedValue
 pub mod Demand
 pub mod Example
 pub mod Cases
+pub mod SpentCases
 pub mod Forecast
 pub mod BudgetCases
 pub mod Pinned

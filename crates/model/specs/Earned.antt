@@ -119,6 +119,6 @@ earnedValue book date = map (earnedAt book date) (indices (parents book))
 unfoldable pub projectEarned : Book → ℕ → Earned
 projectEarned book date = foldl addEarned noEarned (map (earnedAt book date) (leaves (parents book)))
 
--- document 01's `spent`, the last number of every row
-abbrev pub spentIn : Earned → ℤ
+-- document 01's `spent`, at the end of every row: of the row's own figures, and none where its own budget is 0
+abbrev pub spentIn : Earned → Option ℤ
 spentIn e = spentOf (e .actual) (e .budget)

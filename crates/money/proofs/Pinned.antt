@@ -2,6 +2,7 @@
 use mathlib.Core.Path.{_≡_, refl}
 use mathlib.Core.Bool.{true, false}
 use mathlib.Core.List.{List, [], _∷_, map}
+use mathlib.Core.Option.{Option, none, some}
 use Prim.Native.Nat.{ℕ}
 use lib.IntN.{ℤ, pos, negsuc}
 use Rattle.money.specs.declared.costs.Cost.{Cost}
@@ -67,10 +68,33 @@ quotient-cases = refl
 pub signs-differ : differ true true ∷ differ true false ∷ differ false true ∷ differ false false ∷ [] ≡ false ∷ true ∷ true ∷ false ∷ []
 signs-differ = refl
 
--- 2.50 units at 3.33 cost 8.32; of a budget of 3 one is 33.33 %, and of none nothing
-pub priced-spent : (pricedAt (pos 250) (pos 333) ≡ pos 832) × (spentOf (pos 1) (pos 3) ≡ pos 3333) × (spentOf (pos 1) (pos 0) ≡ pos 0)
+-- 2.50 units at 3.33 cost 8.32
+pub priced-case : pricedAt (pos 250) (pos 333) ≡ pos 832
 unfolding scaledBy inRange
-priced-spent = (refl, refl, refl)
+priced-case = refl
+
+-- what is spent, the budget, the share of it
+abbrev shares-spent : List (ℤ × ℤ × Option ℤ)
+shares-spent =
+    (pos 1, pos 3, some (pos 3333))
+    -- toward zero, whatever the signs
+    ∷ (negsuc 0, pos 3, some (negsuc 3332))
+    ∷ (pos 1, negsuc 2, some (negsuc 3332))
+    -- nothing of a budget, and less than a hundredth of a percent of it: a share of 0
+    ∷ (pos 0, pos 5, some (pos 0))
+    ∷ (pos 1, pos 20000, some (pos 0))
+    -- no budget, whatever is spent: no share
+    ∷ (pos 0, pos 0, none)
+    ∷ (pos 700, pos 0, none)
+    ∷ (negsuc 0, pos 0, none)
+    -- beyond either end of 64 bits
+    ∷ (max, pos 1, some max)
+    ∷ (max, negsuc 0, some max)
+    ∷ []
+
+pub spent-cases : map (λ (q : ℤ × ℤ × Option ℤ). spentOf (q .0) (q .1)) shares-spent ≡ map (λ (q : ℤ × ℤ × Option ℤ). q .2) shares-spent
+unfolding scaledBy inRange
+spent-cases = refl
 
 -- ---- shares: what does not divide is on the first days, and of the amount's sign
 

@@ -3,7 +3,9 @@
 use dates::Date;
 use dates::Day;
 use dates::WeekdayOf;
+use money::scale::SpentShare;
 ghost use mathlib.Core.Bool.{cond, _||_};
+ghost use mathlib.Core.Option.{Option·getD};
 ghost use mathlib.Core.Path.{_≡_};
 ghost use lib.Dec.{eqb, ltb};
 ghost use lib.IntN.{_+ℤ_};
@@ -37,9 +39,12 @@ pub extern "C" fn parts_priced(units: i64, price: i64) -> i64
 
 #[no_mangle]
 pub extern "C" fn parts_spent(actual: i64, budget: i64) -> i64
-    ensures { λ r. ⌜ r ≡ spentOf actual budget ⌝ }
+    ensures { λ r. ⌜ r ≡ Option·getD (spentOf actual budget) absent ⌝ }
 {
-    money::scale::spent(actual, budget)
+    match money::scale::spent(actual, budget) {
+        SpentShare::Of(share) => share,
+        SpentShare::Undefined => NONE,
+    }
 }
 
 #[no_mangle]

@@ -1,29 +1,25 @@
--- The rows of earned value and of performance: their sizes, and what is answered with them.
+-- The rows of earned value and of performance: what is answered with them.
 use Prim.Native.Nat.{ℕ, _≤_, _<_}
 use native.Mathlib.Omega.{arith}
 use mathlib.Core.Path.{_≡_, refl, ap, sym, _∙_}
 use mathlib.Core.List.{List, [], _∷_, map}
 use lib.IntN.{ℤ}
-use lib.ListN.{length, set, length-map}
+use lib.ListN.{length, set}
 use lib.Seq.{sets, sets-eq, set-split}
 use Rattle.floats.specs.Figures.{bitsOf}
 use Rattle.format.specs.Book.{Book}
 use Rattle.format.specs.InRange.{InRange}
-use Rattle.model.specs.Tree.{parents, indices}
-use Rattle.model.specs.Earned.{earnedAt, earnedValue, projectEarned, performance}
-use Rattle.lists.proofs.Spans.{span-length}
+use Rattle.model.specs.Earned.{projectEarned, performance}
 use Rattle.tree.specs.Figures.{parentsOf, rolledRows}
 use Rattle.tree.specs.Tables.{ownValues, rolledValues}
 use Rattle.tree.proofs.Figured.{values-rolled}
 use Rattle.spans.specs.Columns.{parentNumber}
 use Rattle.activities.proofs.Leaves.{parents-are}
 use Rattle.answers.specs.declared.Reply.the-variants.{Accepted}
-use Rattle.answers.specs.Rows.{earnedRow, earnedValueRows, projectEarnedRows, performanceRows}
+use Rattle.answers.specs.Rows.{earnedWidth, earnedRow, projectEarnedRows, performanceRows}
 use Rattle.answers.specs.Calls.{Puts}
-use Rattle.answers.proofs.Sized.{Sized, sized, one-sized, one-numbers, in-front}
-use Rattle.model.proofs.Tree.{parents-count}
-use Rattle.value.specs.Figures.{width}
-use Rattle.value.proofs.Reading.{row-six}
+use Rattle.answers.proofs.SizedEarned.{row-wide, project-sized}
+use Rattle.answers.proofs.Sized.{Sized, one-sized, one-numbers, in-front}
 
 -- the own figures, rolled up along the walks
 pub values-from :
@@ -31,23 +27,14 @@ pub values-from :
     ps ≡ map parentNumber (b .activities) → own ≡ ownValues b date → out ≡ rolledRows 5 ps own → out ≡ rolledValues b date
 values-from b date r few {ps = ps} named made rolled = rolled ∙ ap (rolledRows 5 ps) made ∙ values-rolled b date ps (ap parentsOf named ∙ parents-are b few r)
 
-pub values-sized : (date : ℕ) (b : Book) (n : ℕ) → length (b .activities) ≡ n → Sized (earnedValueRows date b) n width
-unfolding earnedValueRows earnedValue
-values-sized date b n e =
-    sized earnedRow width row-six (earnedValue b date) n (length-map (indices (parents b)) (earnedAt b date) ∙ span-length 0 (length (parents b)) ∙ parents-count b ∙ e)
-
-pub project-sized : (date : ℕ) (b : Book) → Sized (projectEarnedRows date b) 1 width
-unfolding projectEarnedRows
-project-sized date b = one-sized (earnedRow (projectEarned b date)) width (row-six (projectEarned b date))
-
 -- a row put at the front
 pub project-put :
-    (date : ℕ) (b : Book) (out : List ℕ) → width ≤ length out → Puts (projectEarnedRows date b) out (Accepted 1) (sets out 0 (earnedRow (projectEarned b date)))
+    (date : ℕ) (b : Book) (out : List ℕ) → earnedWidth ≤ length out → Puts (projectEarnedRows date b) out (Accepted 1) (sets out 0 (earnedRow (projectEarned b date)))
 unfolding projectEarnedRows
 project-put date b out h =
     let row = earnedRow (projectEarned b date) in
-    let six = row-six (projectEarned b date) in
-    rw (sets-eq row out 0 (omega arith), six) (in-front (projectEarnedRows date b) out (project-sized date b) (omega arith) row (sym (one-numbers row)))
+    let seven = row-wide (projectEarned b date) in
+    rw (sets-eq row out 0 (omega arith), seven) (in-front (projectEarnedRows date b) out (project-sized date b) (omega arith) row (sym (one-numbers row)))
 
 pub performance-sized : (i : ℕ) (b : Book) → Sized (performanceRows i b) 1 1
 unfolding performanceRows

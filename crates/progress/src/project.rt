@@ -3,12 +3,12 @@ use crate::own::own_values;
 use activities::schedule::FEW;
 use activities::schedule::SCHEDULE_WIDTH;
 use activities::schedule::parent_marks;
+use answers::EARNED_WIDTH;
 use answers::Reply;
 use answers::TOO_SHORT;
 use answers::open::Opened;
 use model::Earned;
 use tree::table::VALUE_WIDTH;
-use value::WIDTH;
 use value::put_earned;
 use value::sums;
 ghost use Prim.Native.Nat.{_*_};
@@ -79,7 +79,7 @@ pub fn project_earned_of(book: &[u8], opened: Opened, date: u64, out: &mut [u64]
     requires { ⌜ IsOpened (now book) opened ⌝ }
     ensures { λ r. ⌜ Puts (projectEarnedRows date (content (now (book .entry)))) (now (out .entry)) r (now (out .exit)) ⌝ }
 {
-    if out.len() < WIDTH {
+    if out.len() < EARNED_WIDTH {
         return Reply::Refused(TOO_SHORT, 0);
     }
     put_earned(project_earned(book, opened, date), 0, out);

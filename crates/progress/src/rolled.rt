@@ -3,13 +3,13 @@ use crate::own::own_values;
 use activities::schedule::FEW;
 use activities::schedule::SCHEDULE_WIDTH;
 use activities::schedule::copy_parents;
+use answers::EARNED_WIDTH;
 use answers::Reply;
 use answers::TOO_SHORT;
 use answers::open::Opened;
 use model::Earned;
 use tree::table::VALUE_WIDTH;
 use tree::table::roll_rows;
-use value::WIDTH;
 use value::earned_at;
 use value::put_values;
 ghost use Prim.Native.Nat.{_*_, _<_};
@@ -19,7 +19,7 @@ ghost use Rattle.format.specs.Verdict.{content};
 ghost use Rattle.model.specs.Earned.{earnedAt};
 ghost use Rattle.tree.specs.Tables.{rolledValues};
 ghost use Rattle.rows.specs.Rows.{numbers};
-ghost use Rattle.answers.specs.Rows.{earnedValueRows};
+ghost use Rattle.answers.specs.Rows.{earnedWidth, earnedValueRows};
 ghost use Rattle.answers.specs.Calls.{Puts};
 ghost use Rattle.answers.specs.Opened.{IsOpened};
 
@@ -81,7 +81,7 @@ fn roll_values(book: &[u8], opened: Opened, date: u64, out: &mut [i64])
 // The rows, from a table of the rolled figures.
 fn fill_rows(book: &[u8], opened: Opened, date: u64, rolled: &mut [i64], out: &mut [u64])
     requires { ⌜ IsOpened (now book) opened ⌝ }
-    requires { ⌜ (length (now rolled) ≡ opened .plan .activities .count * 5) × (length (now out) ≡ opened .plan .activities .count * 6) ⌝ }
+    requires { ⌜ (length (now rolled) ≡ opened .plan .activities .count * 5) × (length (now out) ≡ opened .plan .activities .count * earnedWidth) ⌝ }
     ensures { λ r. ⌜ now (out .exit) ≡ numbers (earnedValueRows date (content (now (book .entry)))) ⌝ }
 {
     roll_values(book, opened, date, rolled);
@@ -94,7 +94,7 @@ pub fn earned_value_of(book: &[u8], opened: Opened, date: u64, out: &mut [u64]) 
     ensures { λ r. ⌜ Puts (earnedValueRows date (content (now (book .entry)))) (now (out .entry)) r (now (out .exit)) ⌝ }
 {
     let count = opened.plan.activities.count as usize;
-    let n = count * WIDTH;
+    let n = count * EARNED_WIDTH;
     if out.len() < n {
         return Reply::Refused(TOO_SHORT, 0);
     }

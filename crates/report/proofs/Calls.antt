@@ -16,18 +16,18 @@ use Rattle.format.specs.Book.{Book}
 use Rattle.format.specs.Verdict.{verdict, content}
 use Rattle.format.specs.Verdict as format
 use Rattle.format.proofs.Theorems.{content-in-range, content-limits, verdict-accepts}
-use Rattle.lists.proofs.Spans.{made-length}
 use Rattle.rows.specs.Rows.{numbers}
 use Rattle.model.specs.Tree.{parents}
 use Rattle.model.specs.Planned.{plannedCurveBetween}
-use Rattle.model.specs.Earned.{earnedAt, earnedValue, projectEarned}
+use Rattle.model.specs.Earned.{projectEarned}
 use Rattle.model.proofs.Tree.{parents-count}
 use Rattle.answers.specs.declared.Reply.{Reply}
 use Rattle.answers.specs.declared.Reply.the-variants.{Accepted, Refused}
-use Rattle.answers.specs.Rows.{Rows, pointRow, earnedRow, earnedValueRows, projectEarnedRows, plannedCurveRows}
+use Rattle.answers.specs.Rows.{Rows, pointRow, earnedWidth, earnedRow, earnedValueRows, projectEarnedRows, plannedCurveRows}
 use Rattle.answers.specs.Calls.{Condition, isDate, checked, fitted, replyAt, replyNumber, replyPlace, reply, Answers}
 use Rattle.answers.proofs.Replies.{met, none-asked}
-use Rattle.answers.proofs.Sized.{Sized, sized, one-numbers, one-sized}
+use Rattle.answers.proofs.Sized.{Sized, sized, one-numbers}
+use Rattle.answers.proofs.SizedEarned.{values-sized, project-sized}
 use Rattle.answers.proofs.Accepted.{accepted-book, accepted-count, accepted-lent}
 use Rattle.engine.specs.Demand.{IsAccepted, atDate, between}
 use Rattle.engine.proofs.Demand.{accepted-call}
@@ -62,19 +62,15 @@ book-refuses conditions rows s lent sure {e} {p} r = go (verdict s) refl r
     go (place.Refused f q) v h = v ∙ ap (λ (x : Reply). place.Refused (replyNumber x) (replyPlace x)) h
 
 -- ---- earned value
-earned-sized : (book : Book) (day : ℕ) → Sized (earnedValueRows day book) (length (book .activities)) 6
-unfolding earnedValueRows earnedValue earnedRow
-earned-sized book day = sized earnedRow 6 (λ e. refl) (earnedValue book day) (length (book .activities)) (made-length (earnedAt book day) (length (parents book)) ∙ parents-count book)
-
 module _ (s : List ℕ) (bytes : Bytes s) {day : ℕ} (asked : day ≡ askedAt (content s .dataDate)) {out after : List ℕ} {r : Reply} where
-  module _ (a : Answers (atDate day) (earnedValueRows day) s out r after) (size : length out ≡ 3000) where
+  module _ (a : Answers (atDate day) (earnedValueRows day) s out r after) (size : length out ≡ 500 * earnedWidth) where
     -- where the call is accepted, there is a row for each activity
-    pub earned-in : {count : ℕ} → length after ≡ 3000 → r ≡ Accepted count → EarnedIn s day count after
+    pub earned-in : {count : ℕ} → length after ≡ 500 * earnedWidth → r ≡ Accepted count → EarnedIn s day count after
     earned-in {count} kept e =
         let answer = sym (a .answer) ∙ e in
         let j = accepted-book (atDate day) (earnedValueRows day) s out answer in
         let w = verdict-accepts s bytes (j .0) (j .1) in
-        let many : count ≡ length (content s .activities) = accepted-count (atDate day) (earnedValueRows day) s out answer ∙ earned-sized (content s) day .many in
+        let many : count ≡ length (content s .activities) = accepted-count (atDate day) (earnedValueRows day) s out answer ∙ values-sized day (content s) (length (content s .activities)) refl .many in
         record {
           accepted = w;
           asked = asked;
@@ -92,17 +88,17 @@ module _ (s : List ℕ) (bytes : Bytes s) {day : ℕ} (asked : day ≡ askedAt (
         (λ j v.
         let w = verdict-accepts s bytes j v in
         accepted-call (atDate day) (earnedValueRows day) s (length out) v (met (ap isDate asked ∙ asked-in-range s w) none-asked)
-        (omega (arith, earned-sized (content s) day .long, content-limits s w .activities, size)))
+        (omega (arith, values-sized day (content s) (length (content s .activities)) refl .long, content-limits s w .activities, size)))
         (sym (a .answer) ∙ e)
 
--- the project's row, where just its six numbers are lent
+-- the project's row, where just its numbers are lent
 pub project-row :
-    (s : List ℕ) → format.Accepted s → (day : ℕ) → day ≡ askedAt (content s .dataDate) → {out after : List ℕ} {r : Reply} → length out ≡ 6 →
+    (s : List ℕ) → format.Accepted s → (day : ℕ) → day ≡ askedAt (content s .dataDate) → {out after : List ℕ} {r : Reply} → length out ≡ earnedWidth →
     Answers (atDate day) (projectEarnedRows day) s out r after → after ≡ earnedRow (projectEarned (content s) day)
 unfolding projectEarnedRows earnedRow
 project-row s w day d {out} l a =
     let row = earnedRow (projectEarned (content s) day) in
-    let size = one-sized row 6 refl .long in
+    let size = project-sized day (content s) .long in
     let sure = accepted-call (atDate day) (projectEarnedRows day) s (length out) (w .whole) (met (ap isDate d ∙ asked-in-range s w) none-asked) (omega (arith, size, l)) in
     a .lent
     ∙ accepted-lent (atDate day) (projectEarnedRows day) s out (sure .1)

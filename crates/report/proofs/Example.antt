@@ -1,4 +1,4 @@
--- Document 01's example: its status is the text that document 01 prints.
+-- Document 01's example: its status is the text that document 01 prints. And what is printed for a share that is absent, or 0.
 use Prim.Native.Nat.{ℕ}
 use mathlib.Core.Path.{_≡_, ap, _∙_}
 use mathlib.Core.List.{List, [], _∷_, flatMap}
@@ -8,14 +8,17 @@ use Rattle.lists.specs.Lists.{span}
 use Rattle.money.specs.Scale.{inRange, scaledBy}
 use Rattle.format.specs.declared.Pos.{Pos}
 use Rattle.format.specs.declared.Pos.the-variants.{At}
+use Rattle.format.specs.Book.{Calendar}
 use Rattle.format.specs.Verdict.{content}
 use Rattle.format.proofs.Example.{bytes, example, read-back}
 use Rattle.model.specs.declared.Earned.{Earned}
 use Rattle.model.specs.Tree.{parents}
 use Rattle.model.specs.Earned.{earnedAt, earnedValue}
 use Rattle.model.proofs.Example.{example-earned, example-total, example-curve}
+use Rattle.model.proofs.SpentCases.{spentZero, totalCancels, rows-figured, totals-figured}
 use Rattle.answers.specs.Rows.{earnedRow}
-use Rattle.text.specs.Text.{places, decimal, signed, figures, line}
+use Rattle.rows.specs.Rows.{optional}
+use Rattle.text.specs.Text.{places, decimal, signed, marked, figures, line}
 use Rattle.report.specs.Lines.{earnedLine, pointLine}
 use Rattle.report.specs.Status.{activityLine, totalLine, earnedText, curveText, textAt, statusText}
 
@@ -39,10 +42,43 @@ rows = (ap (λ (l : List Earned). getD l 0 row) example-earned, ap (λ (l : List
 
 example-text : textAt (At 67) example ≡ printed
 unfolding
-    earnedText curveText activityLine totalLine earnedLine pointLine line figures signed decimal places earnedRow scaledBy inRange
+    earnedText curveText activityLine totalLine earnedLine pointLine line marked figures signed decimal places earnedRow optional scaledBy inRange
     parents span flatMap
 example-text = rw (rows .0, rows .1, example-total, example-curve)
 
 pub example-status : statusText bytes ≡ printed
 unfolding statusText
 example-status = ap (λ (p : Pos). textAt p (content bytes)) (ap (λ (l : List Pos). getD l 0 (At 0)) (read-back .1)) ∙ ap (textAt (At 67)) (read-back .0) ∙ example-text
+
+-- ---- what is spent, on two small books: `-` without a budget, 0 where a share is 0
+
+-- the row of activity i in a list of rows
+abbrev rowAt : ℕ → List Earned → Earned
+rowAt i rows = getD rows i row
+
+module _ (calendar : Calendar) where
+  -- `0 0 0 0 0 0 -`, `1 5 5 0 0 0 0`, `2 20000 20000 0 1 0 0`, `total 20005 20005 0 1 0 0`
+  pub zero-text : earnedText (spentZero calendar) 47481 ≡
+      48 ∷ 32 ∷ 48 ∷ 32 ∷ 48 ∷ 32 ∷ 48 ∷ 32 ∷ 48 ∷ 32 ∷ 48 ∷ 32 ∷ 45 ∷ 10
+      ∷ 49 ∷ 32 ∷ 53 ∷ 32 ∷ 53 ∷ 32 ∷ 48 ∷ 32 ∷ 48 ∷ 32 ∷ 48 ∷ 32 ∷ 48 ∷ 10
+      ∷ 50 ∷ 32 ∷ 50 ∷ 48 ∷ 48 ∷ 48 ∷ 48 ∷ 32 ∷ 50 ∷ 48 ∷ 48 ∷ 48 ∷ 48 ∷ 32 ∷ 48 ∷ 32 ∷ 49 ∷ 32 ∷ 48 ∷ 32 ∷ 48 ∷ 10
+      ∷ 116 ∷ 111 ∷ 116 ∷ 97 ∷ 108 ∷ 32 ∷ 50 ∷ 48 ∷ 48 ∷ 48 ∷ 53 ∷ 32 ∷ 50 ∷ 48 ∷ 48 ∷ 48 ∷ 53 ∷ 32 ∷ 48 ∷ 32 ∷ 49 ∷ 32 ∷ 48 ∷ 32 ∷ 48 ∷ 10
+      ∷ []
+  unfolding
+      earnedText activityLine totalLine earnedLine marked figures signed decimal places earnedRow optional scaledBy inRange earnedValue parents span flatMap
+  zero-text =
+      let rows = rows-figured calendar .1 in
+      rw (ap (rowAt 0) rows, ap (rowAt 1) rows, ap (rowAt 2) rows, totals-figured calendar .1)
+
+  -- `0 0 0 0 6 0 -`, `1 5 5 0 3 0 6000`, `2 -5 -5 0 3 0 -6000`, `total 0 0 0 6 0 -`
+  pub cancelled-text : earnedText (totalCancels calendar) 47481 ≡
+      48 ∷ 32 ∷ 48 ∷ 32 ∷ 48 ∷ 32 ∷ 48 ∷ 32 ∷ 54 ∷ 32 ∷ 48 ∷ 32 ∷ 45 ∷ 10
+      ∷ 49 ∷ 32 ∷ 53 ∷ 32 ∷ 53 ∷ 32 ∷ 48 ∷ 32 ∷ 51 ∷ 32 ∷ 48 ∷ 32 ∷ 54 ∷ 48 ∷ 48 ∷ 48 ∷ 10
+      ∷ 50 ∷ 32 ∷ 45 ∷ 53 ∷ 32 ∷ 45 ∷ 53 ∷ 32 ∷ 48 ∷ 32 ∷ 51 ∷ 32 ∷ 48 ∷ 32 ∷ 45 ∷ 54 ∷ 48 ∷ 48 ∷ 48 ∷ 10
+      ∷ 116 ∷ 111 ∷ 116 ∷ 97 ∷ 108 ∷ 32 ∷ 48 ∷ 32 ∷ 48 ∷ 32 ∷ 48 ∷ 32 ∷ 54 ∷ 32 ∷ 48 ∷ 32 ∷ 45 ∷ 10
+      ∷ []
+  unfolding
+      earnedText activityLine totalLine earnedLine marked figures signed decimal places earnedRow optional scaledBy inRange earnedValue parents span flatMap
+  cancelled-text =
+      let rows = rows-figured calendar .2 in
+      rw (ap (rowAt 0) rows, ap (rowAt 1) rows, ap (rowAt 2) rows, totals-figured calendar .2)

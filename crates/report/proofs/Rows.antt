@@ -3,7 +3,7 @@ use Prim.Native.Nat.{ℕ, suc, _+_, _*_, _-_, _≤_, _<_}
 use native.Mathlib.Omega.{arith}
 use native.Mathlib.Numerals.{add-one}
 use mathlib.Core.Path.{_≡_, refl, sym, ap, ap₂, _∙_}
-use mathlib.Core.List.{List, _++_, map, flatMap, append-assoc, append-nil}
+use mathlib.Core.List.{List, [], _++_, map, flatMap, append-assoc, append-nil}
 use lib.IntN.{pos}
 use lib.ListN.{length, getD, take, drop}
 use lib.Seq.{drop-append-le, drop-cons, drop-drop, getD-drop, take-at, ext-getD}
@@ -17,9 +17,10 @@ use Rattle.rows.proofs.Numbers.{numbers-flat}
 use Rattle.model.specs.Amounts.{Dated, on}
 use Rattle.model.specs.Tree.{parents, indices}
 use Rattle.model.specs.Earned.{earnedAt, earnedValue}
-use Rattle.answers.specs.Rows.{pointRow, earnedRow, earnedValueRows}
+use Rattle.answers.specs.Rows.{pointRow, earnedWidth, earnedRow, earnedValueRows}
+use Rattle.answers.proofs.SizedEarned.{row-wide}
 use Rattle.text.specs.Text.{decimal, line}
-use Rattle.text.proofs.Spelling.{same}
+use Rattle.text.proofs.Spelling.{same, both}
 use Rattle.report.specs.Lines.{earnedLine, pointLine, activityLineIn, pointLineIn, activityLines, pointLines}
 use Rattle.report.specs.Status.{activityLine, curveLine}
 
@@ -51,10 +52,15 @@ part-of xs a n end h = let e : end - a ≡ n = omega arith in ap (λ (k : ℕ). 
 
 -- ---- lines as they are put behind others
 
-pub activity-put :
-    (lent : List ℕ) (i : ℕ) (xs : List ℕ) {ys : List ℕ} → ys ≡ xs ++ line (decimal i) (take (i * 6 + 6 - i * 6) (drop (i * 6) lent)) → ys ≡ xs ++ activityLineIn lent i
+-- what leads a line, and the columns behind it
+pub led : (head row xs : List ℕ) {ys zs : List ℕ} → ys ≡ xs ++ head → zs ≡ ys ++ earnedLine [] row → zs ≡ xs ++ earnedLine head row
 unfolding earnedLine
-activity-put lent i xs e = same xs e (ap (line (decimal i)) (part-of lent (i * 6) 6 (i * 6 + 6) refl))
+led head row xs e f = both xs head (earnedLine [] row) e f
+
+pub activity-put :
+    (lent : List ℕ) (i : ℕ) (xs : List ℕ) {ys : List ℕ} →
+    ys ≡ xs ++ earnedLine (decimal i) (take (i * earnedWidth + earnedWidth - i * earnedWidth) (drop (i * earnedWidth) lent)) → ys ≡ xs ++ activityLineIn lent i
+activity-put lent i xs e = same xs e (ap (earnedLine (decimal i)) (part-of lent (i * earnedWidth) earnedWidth (i * earnedWidth + earnedWidth) refl))
 
 pub point-put :
     (lent : List ℕ) (i : ℕ) (xs : List ℕ) {ys : List ℕ} →
@@ -78,18 +84,18 @@ row-on width row wide xs d rest i h =
 pub activities-in :
     (book : Book) (date : ℕ) (rest : List ℕ) →
     activityLines (numbers (earnedValueRows date book) ++ rest) (length (parents book)) ≡ flatMap (activityLine book date) (indices (parents book))
-unfolding activityLines activityLine earnedValueRows earnedValue earnedRow
+unfolding activityLines activityLine earnedValueRows earnedValue
 activities-in book date rest = flat-same _ _ (span 0 n) (λ i m. ap (earnedLine (decimal i)) (at i (span-in 0 n i m .1)))
   where
     n : ℕ
     n = length (parents book)
 
-    at : (i : ℕ) → i < 0 + n → take 6 (drop (i * 6) (numbers (earnedValueRows date book) ++ rest)) ≡ earnedRow (earnedAt book date i)
+    at : (i : ℕ) → i < 0 + n → take earnedWidth (drop (i * earnedWidth) (numbers (earnedValueRows date book) ++ rest)) ≡ earnedRow (earnedAt book date i)
     at i h =
         let es = map (earnedAt book date) (span 0 n) in
         let x = getD es i (earnedAt book date 0) in
-        ap (take 6) (row-on 6 earnedRow (λ e. refl) es (earnedAt book date 0) rest i (omega (arith, made-length (earnedAt book date) n)))
-        ∙ take-at (earnedRow x) (flatMap earnedRow (drop (suc i) es) ++ rest) 6 refl
+        ap (take earnedWidth) (row-on earnedWidth earnedRow row-wide es (earnedAt book date 0) rest i (omega (arith, made-length (earnedAt book date) n)))
+        ∙ take-at (earnedRow x) (flatMap earnedRow (drop (suc i) es) ++ rest) earnedWidth (row-wide x)
         ∙ ap earnedRow (made-at (earnedAt book date) (earnedAt book date 0) n i (omega arith))
 
 -- and those of points in lent memory are the points'

@@ -1,13 +1,14 @@
 -- The lines of a report, in ASCII.
 use Prim.Native.Nat.{ℕ, _+_, _*_}
-use mathlib.Core.List.{List, [], _∷_, flatMap}
+use mathlib.Core.List.{List, [], _∷_, _++_, flatMap}
 use lib.ListN.{getD, take, drop}
 use Rattle.lists.specs.Lists.{span}
-use Rattle.text.specs.Text.{decimal, line}
+use Rattle.answers.specs.Rows.{earnedWidth}
+use Rattle.text.specs.Text.{decimal, marked, figures, line}
 
--- a row of earned value: what leads the line, then budget, planned, earned, actual, remaining and spent. Here its figures become text
+-- a row of earned value: what leads the line, then budget, planned, earned, actual and remaining, then what is spent, `-` where it is absent. Here the row's numbers become text
 unfoldable pub earnedLine : List ℕ → List ℕ → List ℕ
-earnedLine head row = line head row
+earnedLine head row = head ++ (figures (take 5 row) ++ ((32 ∷ marked (getD row 5 0) (getD row 6 0)) ++ (10 ∷ [])))
 
 -- a point of the curve: its date, and its figure in two's complement
 unfoldable pub pointLine : ℕ → List ℕ → List ℕ
@@ -21,7 +22,7 @@ refusalLine number place = line (114 ∷ 101 ∷ 102 ∷ 117 ∷ 115 ∷ 101 ∷
 
 -- the line of row i of earned value, led by its index
 abbrev pub activityLineIn : List ℕ → ℕ → List ℕ
-activityLineIn lent i = earnedLine (decimal i) (take 6 (drop (i * 6) lent))
+activityLineIn lent i = earnedLine (decimal i) (take earnedWidth (drop (i * earnedWidth) lent))
 
 -- the line of point i
 abbrev pub pointLineIn : List ℕ → ℕ → List ℕ

@@ -13,7 +13,7 @@ use Rattle.model.specs.Amounts.{Dated}
 use Rattle.model.specs.Tree.{parents, indices}
 use Rattle.model.specs.Planned.{plannedCurveBetween}
 use Rattle.model.specs.Earned.{earnedAt, projectEarned}
-use Rattle.answers.specs.Rows.{earnedRow}
+use Rattle.answers.specs.Rows.{earnedWidth, earnedRow}
 use Rattle.text.specs.Text.{decimal}
 use Rattle.report.specs.Lines.{earnedLine, pointLine, refusalLine, activityLines}
 
@@ -72,5 +72,5 @@ pub record EarnedIn (s : List ℕ) (date count : ℕ) (lent : List ℕ) : Type 0
   pub accepted : Accepted s
   pub asked : date ≡ askedAt (content s .dataDate)
   pub few : count ≤ 500
-  pub room : count * 6 ≤ length lent
+  pub room : count * earnedWidth ≤ length lent
   pub lines : activityLines lent count ≡ flatMap (activityLine (content s) date) (indices (parents (content s)))

@@ -6,13 +6,14 @@ ghost use Prim.Native.Nat.{_+_, _≤_, _<_, suc};
 ghost use lib.ListN.{length, take};
 ghost use Rattle.format.specs.Verdict.{content, Accepted};
 ghost use Rattle.report.specs.Status.{askedAt, totalLine, EarnedIn, statusPage};
+use answers::EARNED_WIDTH;
 use answers::Reply;
 use book::layout::read_layout;
 use fields::OptionalNumber;
 use lines::put_activities;
+use lines::put_earned_line;
 use lines::put_points;
 use lines::put_refusal;
-use text::put_line;
 
 pub mod lines;
 
@@ -23,6 +24,9 @@ pub const PAGES: u64 = 4;
 const FIRST_DAY: u64 = 10957;
 
 const LAST_DAY: u64 = 47481;
+
+// The numbers of 500 rows of earned value: more no book has.
+const MOST_NUMBERS: usize = 500 * EARNED_WIDTH;
 
 // How many dates the curve is asked for at a time: a third of D's range.
 const STRETCH: u64 = 12175;
@@ -55,9 +59,9 @@ fn put_total(book: &[u8], day: u64, out: &mut [u8], at: usize) -> usize
     ensures { λ r. ⌜ r ≤ at + 138 ⌝ }
     ensures { λ r. ⌜ take r (now (out .exit)) ≡ take at (now (out .entry)) ++ totalLine (content (now (book .entry))) day ⌝ }
 {
-    let mut row = [0u64; 6];
+    let mut row = [0u64; EARNED_WIDTH];
     engine::project_earned(book, day, &mut row);
-    put_line(out, at, b"total", &row)
+    put_earned_line(out, at, b"total", &row)
 }
 
 // Puts the first page of an accepted book: a line for each of its rows, and the total.
@@ -78,7 +82,7 @@ fn put_earned(book: &[u8], out: &mut [u8]) -> usize
     ensures { λ r. ⌜ take r (now (out .exit)) ≡ statusPage (now (book .entry)) 0 ⌝ }
 {
     let day = asked_date(book);
-    let mut rows = [0u64; 3000];
+    let mut rows = [0u64; MOST_NUMBERS];
     let reply = engine::earned_value(book, day, &mut rows);
     match reply {
         Reply::Accepted(count) => put_accepted(book, day, &rows, count as usize, out),

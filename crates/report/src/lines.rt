@@ -1,9 +1,17 @@
 // The lines of a report, put into a buffer one behind the other. What a function puts stands at the front, up to the place
 // that it returns.
 ghost use mathlib.Core.Path.{_≡_};
-ghost use Prim.Native.Nat.{_*_, _≤_};
+ghost use mathlib.Core.List.{[], _++_};
+ghost use Prim.Native.Nat.{_+_, _*_, _≤_};
 ghost use lib.ListN.{length, take};
-ghost use Rattle.report.specs.Lines.{activityLines, pointLines, refusalLine};
+ghost use Rattle.answers.specs.Rows.{earnedWidth};
+ghost use Rattle.text.specs.Text.{decimal};
+ghost use Rattle.report.specs.Lines.{earnedLine, activityLines, pointLines, refusalLine};
+use answers::EARNED_WIDTH;
+use text::put;
+use text::put_decimal;
+use text::put_figures;
+use text::put_last;
 use text::put_line;
 use text::put_row;
 
@@ -17,9 +25,42 @@ pub fn put_refusal(out: &mut [u8], number: u64, place: usize) -> usize
     put_line(out, 0, b"refused", &numbers)
 }
 
-// Puts a line for each of the first rows of earned value: its index and its six figures.
+// Puts the columns of a row of earned value behind what leads its line, and the line's end.
+fn put_columns(out: &mut [u8], at: usize, row: &[u64]) -> usize
+    requires { ⌜ length (now row) ≡ earnedWidth ⌝ }
+    requires { ⌜ at + 133 ≤ length (now out) ⌝ }
+    ensures { λ r. ⌜ r ≤ at + 133 ⌝ }
+    ensures { λ r. ⌜ take r (now (out .exit)) ≡ take at (now (out .entry)) ++ earnedLine [] (now (row .entry)) ⌝ }
+{
+    let end = put_figures(out, at, &row[..5]);
+    put_last(out, end, row[5], row[6])
+}
+
+// Puts the line of a row of earned value that an index leads.
+fn put_earned_row(out: &mut [u8], at: usize, index: u64, row: &[u64]) -> usize
+    requires { ⌜ length (now row) ≡ earnedWidth ⌝ }
+    requires { ⌜ at + 153 ≤ length (now out) ⌝ }
+    ensures { λ r. ⌜ r ≤ at + 153 ⌝ }
+    ensures { λ r. ⌜ take r (now (out .exit)) ≡ take at (now (out .entry)) ++ earnedLine (decimal index) (now (row .entry)) ⌝ }
+{
+    let head = put_decimal(out, at, index);
+    put_columns(out, head, row)
+}
+
+// Puts the line of a row of earned value that a word leads.
+pub fn put_earned_line(out: &mut [u8], at: usize, word: &[u8], row: &[u64]) -> usize
+    requires { ⌜ length (now row) ≡ earnedWidth ⌝ }
+    requires { ⌜ at + length (now word) + 133 ≤ length (now out) ⌝ }
+    ensures { λ r. ⌜ r ≤ at + length (now (word .entry)) + 133 ⌝ }
+    ensures { λ r. ⌜ take r (now (out .exit)) ≡ take at (now (out .entry)) ++ earnedLine (now (word .entry)) (now (row .entry)) ⌝ }
+{
+    let head = put(out, at, word);
+    put_columns(out, head, row)
+}
+
+// Puts a line for each of the first rows of earned value, led by its index.
 pub fn put_activities(out: &mut [u8], rows: &[u64], count: usize) -> usize
-    requires { ⌜ count * 6 ≤ length (now rows) ⌝ }
+    requires { ⌜ count * earnedWidth ≤ length (now rows) ⌝ }
     requires { ⌜ count * 153 ≤ length (now out) ⌝ }
     ensures { λ r. ⌜ r ≤ count * 153 ⌝ }
     ensures { λ r. ⌜ take r (now (out .exit)) ≡ activityLines (now (rows .entry)) count ⌝ }
@@ -27,8 +68,8 @@ pub fn put_activities(out: &mut [u8], rows: &[u64], count: usize) -> usize
     let mut end: usize = 0;
     let mut i: usize = 0;
     while i < count {
-        let at = i * 6;
-        end = put_row(out, end, i as u64, &rows[at..at + 6]);
+        let at = i * EARNED_WIDTH;
+        end = put_earned_row(out, end, i as u64, &rows[at..at + EARNED_WIDTH]);
         i += 1;
     }
     end

@@ -12,7 +12,7 @@ use lib.ListN.{length, getD, take, drop, drop-of-length-le}
 use lib.Seq.{length-take-le, take-length, take-append-add, take-append-seam, drop-cons}
 use Rattle.io.specs.Digits.{digits, Fewest}
 use Rattle.money.specs.Words.{ofBits}
-use Rattle.text.specs.Text.{places, decimal, signed, figures}
+use Rattle.text.specs.Text.{places, decimal, signed, marked, figures}
 
 -- text behind text: the same text in other words, and two texts
 pub same : (xs : List ℕ) {zs s t : List ℕ} → zs ≡ xs ++ s → s ≡ t → zs ≡ xs ++ t
@@ -91,6 +91,16 @@ unfolding signed
 signed-high n h b =
     let e : suc (18446744073709551616 - suc n) ≡ 18446744073709551615 - n + 1 = omega arith in
     rw (le-ltb n 9223372036854775808 h) (ap (λ (m : ℕ). 45 ∷ decimal m) e)
+
+-- what may be absent, by its mark
+pub marked-none : (m n : ℕ) → m ≡ 0 → 45 ∷ [] ≡ marked m n
+unfolding marked
+marked-none m n e = ap (λ (k : ℕ). marked k n) (sym e)
+
+pub marked-some : (m n : ℕ) → (m ≡ 0 → ⊥) → signed (ofBits n) ≡ marked m n
+unfolding marked
+marked-some zero n h = absurd (h refl)
+marked-some (suc m) n h = refl
 
 -- one figure more is put behind a blank, and all are put
 pub figures-next :

@@ -21,6 +21,11 @@ unfoldable pub signed : ℤ → List ℕ
 signed (pos n) = decimal n
 signed (negsuc n) = 45 ∷ decimal (suc n)
 
+-- what may be absent, as a mark and a number in two's complement: a hyphen where the mark is 0
+unfoldable pub marked : ℕ → ℕ → List ℕ
+marked zero n = 45 ∷ []
+marked (suc m) n = signed (ofBits n)
+
 -- numbers in two's complement, each behind a blank
 unfoldable pub figures : List ℕ → List ℕ
 figures [] = []

@@ -1,14 +1,14 @@
 // Lines of text, put into a buffer one behind the other. What a function puts stands behind the first `at` bytes, up to the
 // place that it returns.
-ghost use mathlib.Core.List.{[], _++_};
+ghost use mathlib.Core.List.{[], _∷_, _++_};
 ghost use mathlib.Core.Path.{_≡_};
 ghost use Prim.Native.Nat.{_+_, _*_, _≤_};
 ghost use lib.ListN.{length, take};
 ghost use Rattle.money.specs.Words.{ofBits};
-ghost use Rattle.text.specs.Text.{decimal, signed, figures, line};
+ghost use Rattle.text.specs.Text.{decimal, signed, marked, figures, line};
 
 // Puts bytes.
-fn put(out: &mut [u8], at: usize, bytes: &[u8]) -> usize
+pub fn put(out: &mut [u8], at: usize, bytes: &[u8]) -> usize
     requires { ⌜ at + length (now bytes) ≤ length (now out) ⌝ }
     ensures { λ r. ⌜ r ≡ at + length (now (bytes .entry)) ⌝ }
     ensures { λ r. ⌜ take r (now (out .exit)) ≡ take at (now (out .entry)) ++ now (bytes .entry) ⌝ }
@@ -18,7 +18,7 @@ fn put(out: &mut [u8], at: usize, bytes: &[u8]) -> usize
 }
 
 // Puts a number in decimal digits.
-fn put_decimal(out: &mut [u8], at: usize, n: u64) -> usize
+pub fn put_decimal(out: &mut [u8], at: usize, n: u64) -> usize
     requires { ⌜ at + 20 ≤ length (now out) ⌝ }
     ensures { λ r. ⌜ r ≤ at + 20 ⌝ }
     ensures { λ r. ⌜ take r (now (out .exit)) ≡ take at (now (out .entry)) ++ decimal n ⌝ }
@@ -41,8 +41,31 @@ fn put_signed(out: &mut [u8], at: usize, bits: u64) -> usize
     put_decimal(out, behind, 18446744073709551615 - bits + 1)
 }
 
+// Puts what may be absent behind a blank: a hyphen where the mark is 0, else the number.
+fn put_marked(out: &mut [u8], at: usize, mark: u64, bits: u64) -> usize
+    requires { ⌜ at + 22 ≤ length (now out) ⌝ }
+    ensures { λ r. ⌜ r ≤ at + 22 ⌝ }
+    ensures { λ r. ⌜ take r (now (out .exit)) ≡ take at (now (out .entry)) ++ 32 ∷ marked mark bits ⌝ }
+{
+    if mark == 0 {
+        return put(out, at, b" -");
+    }
+    let behind = put(out, at, b" ");
+    put_signed(out, behind, bits)
+}
+
+// Puts the last column of a line, which may be absent, and the line's end.
+pub fn put_last(out: &mut [u8], at: usize, mark: u64, bits: u64) -> usize
+    requires { ⌜ at + 23 ≤ length (now out) ⌝ }
+    ensures { λ r. ⌜ r ≤ at + 23 ⌝ }
+    ensures { λ r. ⌜ take r (now (out .exit)) ≡ take at (now (out .entry)) ++ ((32 ∷ marked mark bits) ++ (10 ∷ [])) ⌝ }
+{
+    let end = put_marked(out, at, mark, bits);
+    put(out, end, b"\n")
+}
+
 // Puts numbers in two's complement, each behind a blank.
-fn put_figures(out: &mut [u8], at: usize, numbers: &[u64]) -> usize
+pub fn put_figures(out: &mut [u8], at: usize, numbers: &[u64]) -> usize
     requires { ⌜ at + 22 * length (now numbers) ≤ length (now out) ⌝ }
     ensures { λ r. ⌜ r ≤ at + 22 * length (now (numbers .entry)) ⌝ }
     ensures { λ r. ⌜ take r (now (out .exit)) ≡ take at (now (out .entry)) ++ figures (now (numbers .entry)) ⌝ }

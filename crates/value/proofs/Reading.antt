@@ -1,9 +1,10 @@
 -- Rows of earned value: read from tables of figures, and as they are answered.
 use Prim.Native.Nat.{ℕ, _+_, _*_, _<_}
-use native.Mathlib.Numerals.{add-one, add-two, add-three, add-four, add-five}
+use native.Mathlib.Numerals.{add-one, add-two, add-three, add-four}
 use native.Mathlib.Omega.{arith}
-use mathlib.Core.Path.{_≡_, refl, ap, sym, _∙_}
+use mathlib.Core.Path.{_≡_, refl, ap, ap₂, sym, _∙_}
 use mathlib.Core.List.{List, map, flatMap}
+use mathlib.Core.Option.{Option, Option·map}
 use lib.IntN.{ℤ, pos}
 use lib.ListN.{length, getD, set, length-map}
 use lib.Seq.{sets}
@@ -14,25 +15,31 @@ use Rattle.lists.specs.Lists.{span}
 use Rattle.model.specs.Tree.{parents, indices}
 use Rattle.model.specs.Earned.{earnedAt, earnedValue, spentIn}
 use Rattle.lists.proofs.Spans.{span-in}
+use Rattle.flat.proofs.Sets.{sets-on}
 use Rattle.flat.proofs.Tables.{flat-same, flat-map}
 use Rattle.tree.specs.Figures.{figureOf}
 use Rattle.tree.specs.Tables.{earnedFigures, rolledValues}
 use Rattle.flat.proofs.Spans.{rows-at}
-use Rattle.rows.specs.Rows.{numbers}
+use Rattle.rows.specs.Rows.{numbers, optional}
 use Rattle.rows.proofs.Numbers.{numbers-flat}
 use Rattle.answers.specs.Rows.{earnedRow, earnedValueRows}
 use Rattle.value.specs.Figures.{earnedIn}
 
--- six numbers set one behind the other
-pub six-set :
-    (out : List ℕ) (at : ℕ) (e : Earned) {a b c d f g : ℕ} → a ≡ bits (e .budget) → b ≡ bits (e .planned) → c ≡ bits (e .earned) → d ≡ bits (e .actual) → f ≡ bits (e .remaining) → g ≡ bits (spentIn e) →
-    set (set (set (set (set (set out at a) (at + 1) b) (at + 2) c) (at + 3) d) (at + 4) f) (at + 5) g ≡ sets out at (earnedRow e)
-unfolding earnedRow
-six-set out at e p q r s t u = rw (p, q, r, s, t, u, add-one at, add-two at, add-three at, add-four at, add-five at) refl
+-- five figures set one behind the other
+pub five-set :
+    (out : List ℕ) (at : ℕ) (e : Earned) {a b c d f : ℕ} → a ≡ bits (e .budget) → b ≡ bits (e .planned) → c ≡ bits (e .earned) → d ≡ bits (e .actual) → f ≡ bits (e .remaining) →
+    set (set (set (set (set out at a) (at + 1) b) (at + 2) c) (at + 3) d) (at + 4) f ≡ sets out at (map bits (earnedFigures e))
+five-set out at e p q r s t = rw (p, q, r, s, t, add-one at, add-two at, add-three at, add-four at) refl
 
-pub row-six : (e : Earned) → length (earnedRow e) ≡ 6
+-- and what is spent behind them
+pub row-set :
+    (out : List ℕ) (at : ℕ) (e : Earned) {figures row : List ℕ} {share : Option ℕ} → figures ≡ sets out at (map bits (earnedFigures e)) → share ≡ Option·map bits (spentIn e) →
+    row ≡ sets figures (at + 5) (optional share) → row ≡ sets out at (earnedRow e)
 unfolding earnedRow
-row-six e = refl
+row-set out at e f o p =
+    p
+    ∙ ap₂ (λ (xs : List ℕ) (x : Option ℕ). sets xs (at + 5) (optional x)) f o
+    ∙ sets-on out at (map bits (earnedFigures e)) (optional (Option·map bits (spentIn e))) (at + 5) refl
 
 -- a row of a table is the figures that it was made of
 pub row-read : (f : ℕ → Earned) (n : ℕ) {table : List ℤ} → table ≡ flatMap (λ i. earnedFigures (f i)) (span 0 n) → (i : ℕ) → i < n → earnedIn table i ≡ f i

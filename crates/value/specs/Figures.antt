@@ -1,4 +1,4 @@
--- A row of earned value, in a table of figures and as it is answered.
+-- A row of earned value in a table of figures.
 use Prim.Native.Nat.{ℕ, _+_, _*_}
 use mathlib.Core.List.{List}
 use lib.IntN.{ℤ}
@@ -8,10 +8,6 @@ use Rattle.tree.specs.Figures.{figureOf}
 -- how many figures an activity has in a table
 abbrev pub figures : ℕ
 figures = 5
-
--- how many numbers a row has that is answered
-abbrev pub width : ℕ
-width = 6
 
 -- the figures of activity i
 abbrev pub earnedIn : List ℤ → ℕ → Earned

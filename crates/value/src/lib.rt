@@ -1,24 +1,29 @@
 // A row of earned value: of one activity from a table of figures, of the project from the leaves' sums, and as it is answered.
+use answers::EARNED_WIDTH;
+use fields::OptionalNumber;
 use model::Earned;
+use money::scale::SpentShare;
 use money::scale::spent;
 use money::words::to_bits;
+use rows::put_optional;
 use tree::table::VALUE_WIDTH;
 use tree::table::leaf_row_sum;
 ghost use Prim.Native.Nat.{ℕ, _+_, _*_, _≤_, _<_};
 ghost use mathlib.Core.Path.{_≡_};
+ghost use mathlib.Core.List.{map};
+ghost use mathlib.Core.Option.{Option·map};
 ghost use lib.ListN.{length};
 ghost use lib.Seq.{sets};
+ghost use Rattle.fields.specs.Optional.{numberOption};
 ghost use Rattle.format.specs.Book.{Book};
+ghost use Rattle.money.specs.Words.{bits};
 ghost use Rattle.model.specs.Tree.{parents};
-ghost use Rattle.model.specs.Earned.{projectEarned};
+ghost use Rattle.model.specs.Earned.{projectEarned, spentIn};
 ghost use Rattle.tree.specs.Figures.{MarksLeaves};
-ghost use Rattle.tree.specs.Tables.{ownValues, rolledValues};
+ghost use Rattle.tree.specs.Tables.{earnedFigures, ownValues, rolledValues};
 ghost use Rattle.rows.specs.Rows.{numbers};
-ghost use Rattle.answers.specs.Rows.{earnedRow, earnedValueRows};
-ghost use Rattle.value.specs.Figures.{figures, width, earnedIn};
-
-// The numbers of a row that is answered: the figures, and what is spent of the budget.
-pub const WIDTH: usize = 6;
+ghost use Rattle.answers.specs.Rows.{earnedWidth, earnedRow, earnedValueRows};
+ghost use Rattle.value.specs.Figures.{figures, earnedIn};
 
 // The figures of activity i.
 pub fn earned_at(table: &[i64], i: usize) -> Earned
@@ -35,27 +40,45 @@ pub fn earned_at(table: &[i64], i: usize) -> Earned
     }
 }
 
-// The numbers of a row, from a place on.
-pub fn put_earned(e: Earned, at: usize, out: &mut [u64])
-    requires { ⌜ at + width ≤ length (now out) ⌝ }
-    ensures { λ r. ⌜ now (out .exit) ≡ sets (now (out .entry)) at (earnedRow e) ⌝ }
+// The five figures, from a place on.
+fn put_figures(e: Earned, at: usize, out: &mut [u64])
+    requires { ⌜ at + figures ≤ length (now out) ⌝ }
+    ensures { λ r. ⌜ now (out .exit) ≡ sets (now (out .entry)) at (map bits (earnedFigures e)) ⌝ }
 {
     out[at] = to_bits(e.budget);
     out[at + 1] = to_bits(e.planned);
     out[at + 2] = to_bits(e.earned);
     out[at + 3] = to_bits(e.actual);
     out[at + 4] = to_bits(e.remaining);
-    out[at + 5] = to_bits(spent(e.actual, e.budget));
+}
+
+// What is spent of the row's own budget, in two's complement.
+fn spent_bits(e: Earned) -> OptionalNumber
+    ensures { λ r. ⌜ numberOption r ≡ Option·map bits (spentIn e) ⌝ }
+{
+    match spent(e.actual, e.budget) {
+        SpentShare::Undefined => OptionalNumber::Absent,
+        SpentShare::Of(share) => OptionalNumber::Present(to_bits(share)),
+    }
+}
+
+// The numbers of a row, from a place on.
+pub fn put_earned(e: Earned, at: usize, out: &mut [u64])
+    requires { ⌜ at + earnedWidth ≤ length (now out) ⌝ }
+    ensures { λ r. ⌜ now (out .exit) ≡ sets (now (out .entry)) at (earnedRow e) ⌝ }
+{
+    put_figures(e, at, out);
+    put_optional(spent_bits(e), at + VALUE_WIDTH, out);
 }
 
 // The rows of n activities, from a table of their figures.
 pub fn put_values(table: &[i64], n: usize, out: &mut [u64])
-    requires { ⌜ (length (now table) ≡ n * figures) × (length (now out) ≡ n * width) ⌝ }
+    requires { ⌜ (length (now table) ≡ n * figures) × (length (now out) ≡ n * earnedWidth) ⌝ }
     ensures { λ r. ⌜ ((book : Book) (date : ℕ) → length (book .activities) ≡ n → now (table .entry) ≡ rolledValues book date → now (out .exit) ≡ numbers (earnedValueRows date book)) ⌝ }
 {
     let mut i = 0;
     while i < n {
-        put_earned(earned_at(table, i), i * WIDTH, out);
+        put_earned(earned_at(table, i), i * EARNED_WIDTH, out);
         i += 1;
     }
 }

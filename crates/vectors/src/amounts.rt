@@ -2,9 +2,11 @@
 use crate::answer::Answer;
 use crate::answer::one;
 use crate::answer::three;
+use crate::answer::two;
 use crate::answer::unknown;
 use crate::names::place;
 use money::costs::Cost;
+use money::scale::SpentShare;
 use money::words::from_bits;
 use money::words::to_bits;
 
@@ -41,8 +43,15 @@ fn amount(place: u64, a: i64, b: i64) -> i64 {
         0 => money::sums::saturating_add(a, b),
         1 => money::sums::saturating_sub(a, b),
         2 => money::scale::priced(a, b),
-        3 => money::scale::spent(a, b),
         _ => a,
+    }
+}
+
+// What is spent of a budget.
+fn spent(actual: u64, budget: u64) -> Answer {
+    match money::scale::spent(from_bits(actual), from_bits(budget)) {
+        SpentShare::Of(share) => two(1, to_bits(share)),
+        SpentShare::Undefined => two(0, 0),
     }
 }
 
@@ -74,10 +83,13 @@ fn spread(place: u64, amount: u64, n: u64, k: u64) -> Answer {
 pub fn answer(name: &[u8], x: [u64; 16]) -> Answer {
     let k = place(
         name,
-        b"saturating_add saturating_sub priced spent to_bits from_bits at_completion variance cost_add share cumulative ",
+        b"saturating_add saturating_sub priced to_bits from_bits spent at_completion variance cost_add share cumulative ",
     );
-    if k < 6 {
+    if k < 5 {
         return one(to_bits(amount(k, from_bits(x[0]), from_bits(x[1]))));
+    }
+    if k == 5 {
+        return spent(x[0], x[1]);
     }
     if k < 9 {
         return of_cost(k, cost(x[0], x[1], x[2]), cost(x[3], x[4], x[5]));

@@ -18,6 +18,12 @@ static int refused(uint64_t number) {
 
 static void figure(const char *name, uint64_t bits) { printf("%s %" PRId64 "\n", name, (int64_t)bits); }
 
+/* A share that is absent is 0 and 0, else it is 1 and hundredths of a percent. */
+static void share(const char *name, const uint64_t *pair) {
+    if (pair[0] == 0) printf("%s none\n", name);
+    else printf("%s %" PRId64 "\n", name, (int64_t)pair[1]);
+}
+
 /* An index that is absent is 0 and 0, else it is 1 and the bits of a double. */
 static void performance_index(const char *name, const uint64_t *pair) {
     double value;
@@ -32,11 +38,12 @@ int main(int count, char **arguments) {
     size_t length = fread(book, 1, sizeof book, file);
     fclose(file);
 
-    if (refused(surukeva_project_earned(book, length, STATUS_DATE, out, 6, &at))) return 1;
+    if (refused(surukeva_project_earned(book, length, STATUS_DATE, out, SURUKEVA_PROJECT_EARNED_WIDTH, &at))) return 1;
     figure("budget", out[0]);
     figure("planned value", out[1]);
     figure("earned value", out[2]);
     figure("actual cost", out[3]);
+    share("spent of the budget", &out[5]);
 
     if (refused(surukeva_project_indices(book, length, STATUS_DATE, out, 9, &at))) return 1;
     figure("estimate at completion", out[1]);

@@ -8,6 +8,7 @@ unsafe extern "C" {
 }
 
 const STATUS_DATE: u64 = 19724; // 2 January 2024
+const EARNED_WIDTH: usize = 7; // of a row of earned value
 const MOST_LINES: usize = 501; // of a budget
 
 /// The number and the place of a refusal.
@@ -22,6 +23,11 @@ fn rows<const N: usize>(most: usize, call: impl FnOnce(*mut u64, usize, &mut u64
     }
 }
 
+/// A share that is absent is 0 and 0, else it is 1 and hundredths of a percent.
+fn share(present: u64, bits: u64) -> String {
+    if present == 0 { "none".into() } else { (bits as i64).to_string() }
+}
+
 /// An index that is absent is 0 and 0, else it is 1 and the bits of a double.
 fn index(present: u64, bits: u64) -> String {
     if present == 0 { "none".into() } else { format!("{:.4}", f64::from_bits(bits)) }
@@ -30,9 +36,10 @@ fn index(present: u64, bits: u64) -> String {
 /// A call reads the bytes of the book and writes to the lent numbers, and to nothing else.
 fn status(book: &[u8]) -> Result<(), Refusal> {
     let (bytes, len) = (book.as_ptr(), book.len());
-    let row: [u64; 6] = rows(1, |out, n, at| unsafe { surukeva_project_earned(bytes, len, STATUS_DATE, out, n, at) })?[0];
+    let row: [u64; EARNED_WIDTH] = rows(1, |out, n, at| unsafe { surukeva_project_earned(bytes, len, STATUS_DATE, out, n, at) })?[0];
     let [budget, planned, earned, actual, ..] = row.map(|bits| bits as i64);
     println!("budget {budget}\nplanned value {planned}\nearned value {earned}\nactual cost {actual}");
+    println!("spent of the budget {}", share(row[5], row[6]));
 
     let row: [u64; 9] = rows(1, |out, n, at| unsafe { surukeva_project_indices(bytes, len, STATUS_DATE, out, n, at) })?[0];
     println!("estimate at completion {}\nvariance at completion {}", row[1] as i64, row[2] as i64);

@@ -1,6 +1,6 @@
 -- `floats::ratio` meets its contract: the test of the bits is the test of the number. Assumes nothing.
 use mir.Facts.{toZ-ofZ}
-use Rattle.floats.proofs.Words.{zero-bits, nonzero-bits}
+use Rattle.integer.specs.Signs.{zero-bits, nonzero-bits}
 use Rattle.floats.proofs.ratio.Statement.{statement}
 use Rattle.floats.proofs.ratio.Tie as tie
 

@@ -9,7 +9,8 @@ use Rattle.answers.specs.Rows.{earnedRow, projectEarnedRows}
 use Rattle.answers.specs.declared.Reply.the-variants.{Accepted}
 use Rattle.answers.specs.Calls.{Puts}
 use Rattle.answers.proofs.Sized.{no-room}
-use Rattle.progress.proofs.Answering.{project-sized, project-put}
+use Rattle.answers.proofs.SizedEarned.{project-sized}
+use Rattle.progress.proofs.Answering.{project-put}
 use Rattle.progress.proofs.project.project_earned_of.Statement.{statement}
 use Rattle.progress.proofs.project.project_earned_of.Tie as tie
 

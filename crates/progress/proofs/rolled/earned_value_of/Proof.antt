@@ -6,17 +6,16 @@ use lib.Seq.{length-take-le}
 use borrow.Author.Needs.{needs}
 use Rattle.format.specs.Verdict.{content}
 use Rattle.book.proofs.Plan.{activities-count, activities-most}
-use Rattle.answers.specs.Rows.{earnedValueRows}
+use Rattle.answers.specs.Rows.{earnedWidth, earnedValueRows}
 use Rattle.answers.proofs.Sized.{Sized, no-room, nothing-there, in-front}
-use Rattle.value.specs.Figures.{width}
-use Rattle.progress.proofs.Answering.{values-sized}
+use Rattle.answers.proofs.SizedEarned.{values-sized}
 use Rattle.progress.proofs.rolled.earned_value_of.Statement.{statement}
 use Rattle.progress.proofs.rolled.earned_value_of.Tie as tie
 
 most : (s : tie.Start) → s .args .opened .plan .activities .count ≤ 500
 most s = activities-most (s .pre .plan)
 
-size : (s : tie.Start) → Sized (earnedValueRows (s .args .date) (content (s .args .book .now))) (s .args .opened .plan .activities .count) width
+size : (s : tie.Start) → Sized (earnedValueRows (s .args .date) (content (s .args .book .now))) (s .args .opened .plan .activities .count) earnedWidth
 size s = values-sized (s .args .date) (content (s .args .book .now)) (s .args .opened .plan .activities .count) (activities-count (s .pre .plan))
 
 returns : tie.Need-returns

@@ -24,7 +24,7 @@ loop-holds c = (refl, omega arith, omega arith, lines-all _ _)
 loop-again : tie.Need-loop-again Inv-loop μ-loop
 loop-again c =
     let loop = c .before .before .before .before .before .before .loop in
-    let put = c .before .before .put-row in (
+    let put = c .before .before .put-earned-row in (
       search needs,
       search needs,
       search needs,

@@ -1,0 +1,46 @@
+-- Rows of earned value on small books, by computation: what is spent is there where the row's own budget is not 0.
+use Prim.Native.Nat.{ℕ, _-_, _^_}
+use mathlib.Core.Path.{_≡_}
+use mathlib.Core.List.{List, [], _∷_}
+use Rattle.money.specs.Scale.{inRange, scaledBy}
+use Rattle.format.specs.Book.{Calendar}
+use Rattle.model.proofs.SpentCases.{freeRepair, spentZero, totalCancels, noLeaf, empty, rows-figured, totals-figured}
+use Rattle.rows.specs.Rows.{optional}
+use Rattle.answers.specs.Rows.{earnedRow, earnedValueRows, projectEarnedRows}
+
+-- a row of zeros: no budget, nothing spent, and no share
+abbrev zeros : List ℕ
+zeros = 0 ∷ 0 ∷ 0 ∷ 0 ∷ 0 ∷ 0 ∷ 0 ∷ []
+
+-- 700 spent without a budget
+abbrev repair : List ℕ
+repair = 0 ∷ 0 ∷ 0 ∷ 700 ∷ 0 ∷ 0 ∷ 0 ∷ []
+
+-- 6 spent where two budgets cancel
+abbrev cancelled : List ℕ
+cancelled = 0 ∷ 0 ∷ 0 ∷ 6 ∷ 0 ∷ 0 ∷ 0 ∷ []
+
+-- 3 of −5: −6,000
+abbrev credit : List ℕ
+credit = (2 ^ 64 - 5) ∷ (2 ^ 64 - 5) ∷ 0 ∷ 3 ∷ 0 ∷ 1 ∷ (2 ^ 64 - 6000) ∷ []
+
+module _ (calendar : Calendar) where
+  pub rows-spent :
+      (earnedValueRows 47481 (freeRepair calendar) ≡ repair ∷ [])
+      -- a share of 0 is there: nothing of 5, and 1 of 20,000
+      × (earnedValueRows 47481 (spentZero calendar) ≡ zeros ∷ (5 ∷ 5 ∷ 0 ∷ 0 ∷ 0 ∷ 1 ∷ 0 ∷ []) ∷ (20000 ∷ 20000 ∷ 0 ∷ 1 ∷ 0 ∷ 1 ∷ 0 ∷ []) ∷ [])
+      × (earnedValueRows 47481 (totalCancels calendar) ≡ cancelled ∷ (5 ∷ 5 ∷ 0 ∷ 3 ∷ 0 ∷ 1 ∷ 6000 ∷ []) ∷ credit ∷ [])
+      × (earnedValueRows 47481 (noLeaf calendar) ≡ zeros ∷ [])
+      × (earnedValueRows 47481 (empty calendar) ≡ [])
+  unfolding earnedValueRows earnedRow optional scaledBy inRange
+  rows-spent = let f = rows-figured calendar in (rw (f .0), rw (f .1), rw (f .2), rw (f .3), rw (f .4))
+
+  -- of the summed figures, and not of a leaf's
+  pub totals-spent :
+      (projectEarnedRows 47481 (freeRepair calendar) ≡ repair ∷ [])
+      × (projectEarnedRows 47481 (spentZero calendar) ≡ (20005 ∷ 20005 ∷ 0 ∷ 1 ∷ 0 ∷ 1 ∷ 0 ∷ []) ∷ [])
+      × (projectEarnedRows 47481 (totalCancels calendar) ≡ cancelled ∷ [])
+      × (projectEarnedRows 47481 (noLeaf calendar) ≡ zeros ∷ [])
+      × (projectEarnedRows 47481 (empty calendar) ≡ zeros ∷ [])
+  unfolding projectEarnedRows earnedRow optional scaledBy inRange
+  totals-spent = let f = totals-figured calendar in (rw (f .0), rw (f .1), rw (f .2), rw (f .3), rw (f .4))
