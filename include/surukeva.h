@@ -18,9 +18,10 @@ extern "C" {
 #endif
 
 #define SURUKEVA_VERSION_MAJOR 2
-#define SURUKEVA_VERSION_MINOR 0
+#define SURUKEVA_VERSION_MINOR 1
 
-/* Stack that is enough for every call on every book, as measured with the largest tables (docs/BENCHMARKS.md). */
+/* Stack that is enough for every call on every book, as measured with the largest tables (docs/BENCHMARKS.md).
+   surukeva_outline goes down the tree by recursion, at most 500 levels: 72,144 bytes, when its larger tables are no longer held. */
 #define SURUKEVA_STACK 2097152
 
 /* What a call returns. */
@@ -69,6 +70,8 @@ enum surukeva_refusal {
 #define SURUKEVA_EARNED_VALUE_MOST 500
 #define SURUKEVA_PROJECT_EARNED_WIDTH SURUKEVA_EARNED_VALUE_WIDTH
 #define SURUKEVA_PROJECT_EARNED_MOST 1
+#define SURUKEVA_OUTLINE_WIDTH (2 + SURUKEVA_EARNED_VALUE_WIDTH)
+#define SURUKEVA_OUTLINE_MOST 500
 #define SURUKEVA_PLANNED_CURVE_WIDTH 2
 #define SURUKEVA_PLANNED_CURVE_MOST 36525
 #define SURUKEVA_PERFORMANCE_WIDTH 1
@@ -111,6 +114,12 @@ uint64_t surukeva_earned_value(const uint8_t *book, size_t len, uint64_t date, u
 
 /* The same seven numbers of the leaves, added up; what is spent is of the sums. */
 uint64_t surukeva_project_earned(const uint8_t *book, size_t len, uint64_t date, uint64_t *out, size_t out_len, uint64_t *at);
+
+/* Nine numbers for each line of the outline at the status date `date`: its level, 1 for a top (no parent); its activity's index; then
+   that activity's seven numbers of surukeva_earned_value. Tops stand in index order, each child under its parent in index order, its
+   whole branch before the next one's. Activities on a circle, or that hang on one, are not listed, and 10 does not count them: `out`
+   needs nine numbers for each activity that is listed, 4,500 at most. */
+uint64_t surukeva_outline(const uint8_t *book, size_t len, uint64_t date, uint64_t *out, size_t out_len, uint64_t *at);
 
 /* Two numbers for each date from `from` to `to` that a leaf lists: the date and the planned value up to it. */
 uint64_t surukeva_planned_curve(const uint8_t *book, size_t len, uint64_t from, uint64_t to, uint64_t *out, size_t out_len, uint64_t *at);

@@ -33,12 +33,13 @@ CALL(period_points, out, lent, &at)
 CALL(variances, out, lent, &at)
 CALL(budget, out, lent, &at)
 CALL(funding, out, lent, &at)
+CALL(outline, date, out, lent, &at)
 
 #define NAMED(name) {#name, name}
 static const struct { const char *name; uint64_t (*call)(uint64_t); } calls[] = {
     NAMED(verdict), NAMED(costs), NAMED(project_cost), NAMED(actual_by_kind), NAMED(spending), NAMED(spending_by_month),
     NAMED(earned_value), NAMED(project_earned), NAMED(planned_curve), NAMED(performance), NAMED(indices), NAMED(project_indices),
-    NAMED(period_points), NAMED(variances), NAMED(budget), NAMED(funding),
+    NAMED(period_points), NAMED(variances), NAMED(budget), NAMED(funding), NAMED(outline),
 };
 
 __attribute__((noinline)) uint64_t counted(uint64_t (*call)(uint64_t), uint64_t date) { return call(date); }

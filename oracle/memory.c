@@ -28,7 +28,8 @@ static uint64_t call(int k, const uint8_t *book, size_t len, uint64_t *out, size
     case 11: return surukeva_period_points(book, len, out, out_len, at);
     case 12: return surukeva_variances(book, len, out, out_len, at);
     case 13: return surukeva_budget(book, len, out, out_len, at);
-    default: return surukeva_funding(book, len, out, out_len, at);
+    case 14: return surukeva_funding(book, len, out, out_len, at);
+    default: return surukeva_outline(book, len, LAST, out, out_len, at);
     }
 }
 
@@ -48,6 +49,7 @@ static const struct { const char *name; size_t width, most; } calls[] = {
     {"variances", SURUKEVA_VARIANCES_WIDTH, SURUKEVA_VARIANCES_MOST},
     {"budget", SURUKEVA_BUDGET_WIDTH, SURUKEVA_BUDGET_MOST},
     {"funding", SURUKEVA_FUNDING_WIDTH, SURUKEVA_FUNDING_MOST},
+    {"outline", SURUKEVA_OUTLINE_WIDTH, SURUKEVA_OUTLINE_MOST},
 };
 
 static void say(const char *name, size_t lent, uint64_t number, uint64_t at) {

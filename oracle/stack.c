@@ -46,6 +46,7 @@ PLAIN(period_points)
 PLAIN(variances)
 PLAIN(budget)
 PLAIN(funding)
+ONE(outline, LAST_DAY)
 
 /* The bytes of its stack that a thread wrote to. */
 static size_t used(void *(*call)(void *)) {
@@ -87,5 +88,6 @@ int main(void) {
     REPORT(variances);
     REPORT(budget);
     REPORT(funding);
+    REPORT(outline);
     return 0;
 }

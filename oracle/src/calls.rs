@@ -1,4 +1,5 @@
-//! The calls of the base, from a book's bytes to rows in lent memory, answered by the Rust.
+//! The calls, from a book's bytes to rows in lent memory, answered by the Rust; the order of the outline, which it has
+//! not, is `outline`'s.
 
 use mkperth_core::Date;
 use mkperth_sched::{
@@ -8,6 +9,7 @@ use mkperth_sched::{
 };
 
 use crate::book::{FIRST_DAY, LAST_DAY, decode};
+use crate::outline;
 use crate::project::{Stage, date};
 
 /// What a call is asked, beside the book.
@@ -34,9 +36,11 @@ const ACTIVITY_AND_DATE: &[Asked] = &[Asked::Activity, Asked::Date];
 
 /// The numbers of a row of earned value: five figures, then what is spent, which may be absent.
 pub const EARNED_WIDTH: usize = 7;
+/// The numbers of a row of the outline: level, index, and that activity's earned value.
+pub const OUTLINE_WIDTH: usize = 2 + EARNED_WIDTH;
 
 /// Every call.
-pub const CALLS: [Call; 16] = [
+pub const CALLS: [Call; 17] = [
     Call { name: "verdict", asked: NOTHING, width: 0, rows: |_, _| Vec::new() },
     Call { name: "costs", asked: NOTHING, width: 3, rows: costs_rows },
     Call { name: "project_cost", asked: NOTHING, width: 3, rows: project_cost_row },
@@ -53,6 +57,7 @@ pub const CALLS: [Call; 16] = [
     Call { name: "budget", asked: NOTHING, width: 10, rows: budget_rows },
     Call { name: "funding", asked: NOTHING, width: 2, rows: funding_row },
     Call { name: "spending_by_month", asked: NOTHING, width: 2, rows: month_rows },
+    Call { name: "outline", asked: DATE, width: OUTLINE_WIDTH, rows: outline_rows },
 ];
 
 /// The call of that name.
@@ -245,6 +250,14 @@ fn funding_row(s: &Stage, _: &[u64]) -> Vec<u64> {
 
 fn month_rows(s: &Stage, _: &[u64]) -> Vec<u64> {
     points(spending_by_month(&s.project, &s.schedule))
+}
+
+fn outline_rows(s: &Stage, asked: &[u64]) -> Vec<u64> {
+    let all = earned_value(&s.project, &s.schedule, date(asked[0]));
+    let row = |(level, index): outline::Entry| {
+        [level, index].into_iter().chain(earned(&all[index as usize]))
+    };
+    outline::order(&s.book).into_iter().flat_map(row).collect()
 }
 
 fn index_of(name: &str) -> u64 {

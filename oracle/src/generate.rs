@@ -4,10 +4,21 @@ use crate::book::*;
 use crate::calls::{Asked, Call};
 use crate::encode::{encode, groups};
 use crate::random::{Random, Size};
+use crate::trees;
 
 /// The kinds of accepted book that the Rust answers quickly, the smallest first.
-const QUICK: [&str; 10] = [
-    "small", "ends", "offset", "tree", "calendar", "money", "periods", "long", "large", "programme",
+const QUICK: [&str; 11] = [
+    "small",
+    "ends",
+    "offset",
+    "tree",
+    "outline",
+    "calendar",
+    "money",
+    "periods",
+    "long",
+    "large",
+    "programme",
 ];
 /// The others; `any` is one of the quick ones, `example` is document 01's, whatever the seed.
 const OTHERS: [&str; 4] = ["full", "worst", "any", "example"];
@@ -23,10 +34,11 @@ pub fn book(kind: &str, seed: u64) -> Option<Book> {
     let book = match kind {
         "any" => {
             let small = random.one_in(2);
-            let kind = if small { random.pick(&QUICK[..5]) } else { random.pick(&QUICK) };
+            let kind = if small { random.pick(&QUICK[..6]) } else { random.pick(&QUICK) };
             return book(kind, random.number());
         }
         "offset" => offset(&mut random),
+        "outline" => outline(&mut random),
         "full" => full(&mut random),
         "worst" => worst(&mut random),
         "programme" => crate::programme::book(&mut random),
@@ -72,6 +84,19 @@ fn offset(random: &mut Random) -> Book {
         };
         before = expense.planned;
     }
+    book
+}
+
+/// A book with one of `trees`, up to 500 activities and few other records.
+fn outline(random: &mut Random) -> Book {
+    let small = small_shape(random);
+    let most = random.pick(&[6, 20, 60, 150, 500]);
+    let activities = if random.one_in(2) { most } else { random.within(1, most) };
+    let expenses = activities.min(80);
+    let shape = Shape { activities, expenses, tree: Tree::None, filled: true, ..small };
+    let mut book = Maker { random: Random::new(random.number()), shape }.book();
+    let parents = trees::parents(activities, random);
+    book.activities.iter_mut().zip(parents).for_each(|(activity, parent)| activity.parent = parent);
     book
 }
 

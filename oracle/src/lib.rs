@@ -12,6 +12,7 @@ pub mod growth;
 pub mod leaf;
 #[cfg(feature = "library")]
 pub mod library;
+pub mod outline;
 pub mod programme;
 pub mod project;
 pub mod random;
@@ -20,5 +21,6 @@ pub mod selftest;
 pub mod status;
 pub mod statuses;
 pub mod traps;
+pub mod trees;
 pub mod vectors;
 pub mod verdicts;

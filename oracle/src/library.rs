@@ -186,11 +186,11 @@ macro_rules! book_calls {
             let mut table = Vec::new();
             #[cfg(export = "surukeva_verdict")]
             table.push(BookCall {
-                rust: crate::calls::named("verdict").expect("a call of the base"),
+                rust: crate::calls::named("verdict").expect("a call of that name"),
                 export: Export::Verdict(surukeva_verdict),
             });
             $(#[cfg(export = $export)] table.push(BookCall {
-                rust: crate::calls::named($call).expect("a call of the base"),
+                rust: crate::calls::named($call).expect("a call of that name"),
                 export: Export::$kind($name),
             });)*
             table
@@ -214,6 +214,7 @@ book_calls! {
     "surukeva_budget" surukeva_budget "budget" Plain();
     "surukeva_funding" surukeva_funding "funding" Plain();
     "surukeva_spending_by_month" surukeva_spending_by_month "spending_by_month" Plain();
+    "surukeva_outline" surukeva_outline "outline" One(day);
 }
 
 /// The calls that the status is made of.

@@ -4,11 +4,16 @@ use std::io::{Read, Write, stdin, stdout};
 use std::process::ExitCode;
 
 use oracle::damage::Damage;
-use oracle::{called, generate, sample, selftest, status, statuses, traps, vectors, verdicts};
+use oracle::statuses::Text;
+use oracle::{
+    called, generate, outline, sample, selftest, status, statuses, traps, vectors, verdicts,
+};
 
 const USAGE: &str = "oracle answer CALL [ASKED..] < BOOK
 oracle status < BOOK
+oracle outline < BOOK
 oracle statuses PROGRAM SEED COUNT TRAPS
+oracle outlines PROGRAM SEED COUNT TRAPS
 oracle traps FILE
 oracle generate KIND SEED > BOOK
 oracle sample KIND SEED
@@ -23,9 +28,9 @@ fn main() -> ExitCode {
     let done = match words[..] {
         ["answer", ..] if words.len() > 1 => answer(&words[1..].join(" ")),
         ["status"] => print(status::text(&standard_input()).as_bytes()),
-        ["statuses", program, seed, count, file] => number(seed)
-            .zip(number(count))
-            .and_then(|(seed, count)| compare_statuses(program, seed, count, file)),
+        ["outline"] => print(outline::text(&standard_input()).as_bytes()),
+        ["statuses", ..] => compare_texts("status", status::text, &words[1..]),
+        ["outlines", ..] => compare_texts("outline", outline::text, &words[1..]),
         ["traps", file] => check_traps(file),
         ["generate", kind, seed] => {
             number(seed).and_then(|seed| sample::bytes(kind, seed)).and_then(|bytes| print(&bytes))
@@ -92,12 +97,14 @@ fn check_traps(file: &str) -> Option<bool> {
     Some(differ == 0)
 }
 
-fn compare_statuses(program: &str, seed: u64, count: u64, file: &str) -> Option<bool> {
-    let text = std::fs::read_to_string(file).ok()?;
-    let outcome = statuses::compare(program, seed, count, &text);
-    outcome.differences.iter().for_each(|text| println!("status DIFFERS on {text}"));
+/// Runs a program that is to print that text: its path, a seed, how many books are made, and a file of trap books.
+fn compare_texts(name: &str, text: Text, words: &[&str]) -> Option<bool> {
+    let [program, seed, count, file] = words else { return None };
+    let traps = std::fs::read_to_string(file).ok()?;
+    let outcome = statuses::compare(program, text, number(seed)?, number(count)?, &traps);
+    outcome.differences.iter().for_each(|text| println!("{name} DIFFERS on {text}"));
     let (refused, differ) = (outcome.refused, outcome.differences.len());
-    println!("status: {} books, {refused} refused, {differ} differ", outcome.books);
+    println!("{name}: {} books, {refused} refused, {differ} differ", outcome.books);
     Some(differ == 0)
 }
 

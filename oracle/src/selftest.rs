@@ -1,16 +1,17 @@
-//! The oracle held against document 01 and against itself.
+//! The oracle held against documents 01 and 02 and against itself.
 
 use mkperth_core::{EtcTechnique, Price, Resource};
 use mkperth_sched::Earned;
 use mkperth_sched::costs::spread;
 
 use crate::arguments::{FIRST_DATE, LAST_DATE};
-use crate::book::{LONGEST, decode};
+use crate::book::{Activity, Book, Calendar, Expense, LONGEST, decode};
 use crate::calls::{CALLS, Call, MOST_NUMBERS};
 use crate::damage::{Damage, damaged};
 use crate::encode::encode;
 use crate::generate;
 use crate::leaf;
+use crate::outline;
 use crate::project::{Stage, date};
 use crate::random::Random;
 use crate::status;
@@ -60,6 +61,10 @@ pub fn run(books: u64) -> Tally {
     tally.section("reference figures");
     reference_money(&mut tally);
     reference_prices_and_dates(&mut tally);
+    tally.section("outline");
+    outline_orders(&mut tally);
+    outline_texts(&mut tally);
+    outline_promises(&mut tally, books);
     tally.section("written and read back");
     round_trips(&mut tally, books);
     tally.section("damaged copies");
@@ -77,6 +82,9 @@ fn example(tally: &mut Tally) {
         total 1000 667 500 400 600 4000\n19723 334\n19724 667\n19725 1000\n";
     tally.equal("status", status::text(&encode(&generate::example())).as_str(), expected);
     tally.equal("status of no bytes", status::text(&[]).as_str(), "refused 2 0\n");
+    let expected = "1 0 1000 667 500 400 600 4000\n2 1 1000 667 500 400 600 4000\n";
+    tally.equal("outline", outline::text(&encode(&generate::example())).as_str(), expected);
+    tally.equal("outline of no bytes", outline::text(&[]).as_str(), "refused 2 0\n");
 }
 
 fn reference_money(tally: &mut Tally) {
@@ -114,6 +122,82 @@ fn reference_prices_and_dates(tally: &mut Tally) {
     tally.equal("last date", leaf::from_ymd(9999, 12, 31).map(i64::from), Some(LAST_DATE));
     tally.equal("before the first", leaf::from_days(FIRST_DATE as i32 - 1), None);
     tally.equal("after the last", leaf::from_days(LAST_DATE as i32 + 1), None);
+}
+
+/// A book of one day, with those parents, and planned expenses of those activities.
+fn tree(parents: &[Option<u64>], expenses: &[(u64, i64)]) -> Book {
+    let activity = |parent: &Option<u64>| Activity {
+        parent: *parent,
+        early_start: 20_000,
+        early_finish: 20_000,
+        ..Default::default()
+    };
+    let expense = |(activity, planned): &(u64, i64)| Expense {
+        activity: *activity,
+        accrual: 2,
+        planned: *planned,
+        ..Default::default()
+    };
+    Book {
+        calendars: vec![Calendar { week: 127, ..Default::default() }],
+        activities: parents.iter().map(activity).collect(),
+        expenses: expenses.iter().map(expense).collect(),
+        ..Default::default()
+    }
+}
+
+fn outline_orders(tally: &mut Tally) {
+    let order = |parents: &[Option<u64>]| outline::order(&tree(parents, &[]));
+    let mixed = order(&[Some(3), None, Some(3), None, Some(0)]);
+    tally.equal("a branch at a time", mixed, vec![(1, 1), (1, 3), (2, 0), (3, 4), (2, 2)]);
+    let chain = order(&[Some(1), Some(2), None]);
+    tally.equal("as many levels as activities", chain, vec![(1, 2), (2, 1), (3, 0)]);
+    let beside = order(&[Some(0), Some(0), None, Some(2)]);
+    tally.equal("beside a circle", beside, vec![(1, 2), (2, 3)]);
+    tally.equal("on a circle and hanging on it", order(&[Some(0), Some(0)]), vec![]);
+    tally.equal("a circle of two", order(&[Some(1), Some(0), Some(1), None]), vec![(1, 3)]);
+    tally.equal("tops alone", order(&[None, None]), vec![(1, 0), (1, 1)]);
+    tally.equal("no activity", order(&[]), vec![]);
+    let deepest: Vec<_> = (1..=500).map(|k| (k < 500).then_some(k)).collect();
+    let expected: Vec<_> = (1..=500).map(|level| (level, 500 - level)).collect();
+    tally.equal("500 levels", order(&deepest), expected);
+}
+
+fn outline_texts(tally: &mut Tally) {
+    let text = |parents: &[Option<u64>], expenses: &[(u64, i64)]| {
+        outline::text(&encode(&tree(parents, expenses)))
+    };
+    let circle = [Some(0), Some(0), None, Some(2)];
+    let beside = text(&circle, &[(1, 100), (3, 7)]);
+    tally.equal("beside a circle", beside.as_str(), "1 2 7 7 0 0 0 0\n2 3 7 7 0 0 0 0\n");
+    let own = text(&[None, Some(0)], &[(0, 100), (1, 1)]);
+    tally.equal("a parent's own", own.as_str(), "1 0 1 1 0 0 0 0\n2 1 1 1 0 0 0 0\n");
+    tally.equal("all on a circle", text(&circle[..2], &[(1, 100)]).as_str(), "");
+    tally.equal("no budget", text(&[None], &[]).as_str(), "1 0 0 0 0 0 0 -\n");
+}
+
+/// Document 02's promise: every top and every activity below one appears, one time, and after its parent; children and
+/// tops in index order, a whole branch before the next one's.
+fn outline_promises(tally: &mut Tally, books: u64) {
+    for seed in 0..books.div_ceil(2) {
+        let Some(book) = generate::book("outline", seed) else { continue };
+        let mut listed = vec![false; book.activities.len()];
+        // The activity before, behind all that it stands under.
+        let mut branch: Vec<u64> = Vec::new();
+        for (level, index) in outline::order(&book) {
+            let above = level as usize - 1;
+            let rises = branch.get(above).is_none_or(|sibling| *sibling < index);
+            branch.truncate(above);
+            let parent = book.activities[index as usize].parent;
+            let under = branch.len() == above && branch.last().copied() == parent;
+            let first = !std::mem::replace(&mut listed[index as usize], true);
+            tally.holds(rises && under && first, || format!("seed {seed}: {level} {index}"));
+            branch.push(index);
+        }
+        let due = |a: &Activity| a.parent.is_none_or(|parent| listed[parent as usize]);
+        let all = book.activities.iter().zip(&listed).all(|(a, listed)| *listed || !due(a));
+        tally.holds(all, || format!("seed {seed}: an activity is left out"));
+    }
 }
 
 fn round_trips(tally: &mut Tally, books: u64) {

@@ -1,4 +1,4 @@
-//! Holds the status program against the Rust: its text on the trap books and on made ones, whole and damaged.
+//! Holds a program that prints a text against the oracle: on the trap books and on made ones, whole and damaged.
 
 use std::io::{Error, ErrorKind, Write};
 use std::process::{Command, Stdio};
@@ -6,8 +6,10 @@ use std::process::{Command, Stdio};
 use crate::book::decode;
 use crate::random::Random;
 use crate::sample;
-use crate::status;
 use crate::traps;
+
+/// What a program is to print for a book.
+pub type Text = fn(&[u8]) -> String;
 
 /// How many books the program was run on, how many of them are refused, and a text for each that differs.
 #[derive(Default)]
@@ -18,44 +20,44 @@ pub struct Outcome {
 }
 
 /// Runs the program on the trap books of a file, and on `count` made ones.
-pub fn compare(program: &str, seed: u64, count: u64, file: &str) -> Outcome {
+pub fn compare(program: &str, text: Text, seed: u64, count: u64, file: &str) -> Outcome {
     let mut outcome = Outcome::default();
     for (name, book) in traps::books(file) {
-        outcome.add(program, &format!("trap book {name}"), &book);
+        outcome.add(program, text, &format!("trap book {name}"), &book);
     }
     let mut random = Random::new(seed);
     for k in 0..count {
         let (_, book) = sample::drawn(8, &mut random);
-        outcome.add(program, &format!("made book {k}"), &book);
+        outcome.add(program, text, &format!("made book {k}"), &book);
     }
     outcome
 }
 
 impl Outcome {
-    fn add(&mut self, program: &str, name: &str, book: &[u8]) {
+    fn add(&mut self, program: &str, text: Text, name: &str, book: &[u8]) {
         self.books += 1;
         self.refused += usize::from(decode(book).is_err());
         let found = match printed(program, book) {
             Ok(bytes) => String::from_utf8_lossy(&bytes).into_owned(),
             Err(error) => format!("{program}: {error}"),
         };
-        if let Some(line) = difference(&status::text(book), &found) {
+        if let Some(line) = difference(&text(book), &found) {
             self.differences.push(format!("{name}: {line}"));
         }
     }
 }
 
-/// The first line that is not the Rust's.
+/// The first line that is not the oracle's.
 fn difference(expected: &str, found: &str) -> Option<String> {
     if expected == found {
         return None;
     }
-    let (mut rust, mut ours) = (expected.lines(), found.lines());
+    let (mut oracle, mut ours) = (expected.lines(), found.lines());
     for number in 1.. {
-        match (rust.next(), ours.next()) {
+        match (oracle.next(), ours.next()) {
             (None, None) => break,
             (a, b) if a == b => {}
-            (a, b) => return Some(format!("line {number} is {b:?}, the Rust's {a:?}")),
+            (a, b) => return Some(format!("line {number} is {b:?}, the oracle's {a:?}")),
         }
     }
     Some("the lines end otherwise".into())
@@ -71,5 +73,10 @@ fn printed(program: &str, book: &[u8]) -> Result<Vec<u8>, Error> {
             _ => {}
         }
     }
-    Ok(child.wait_with_output()?.stdout)
+    let output = child.wait_with_output()?;
+    // To print nothing may be right, to fail never is.
+    match output.status.success() {
+        true => Ok(output.stdout),
+        false => Err(Error::other(output.status.to_string())),
+    }
 }

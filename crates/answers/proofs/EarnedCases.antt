@@ -1,12 +1,14 @@
--- Rows of earned value on small books, by computation: what is spent is there where the row's own budget is not 0.
+-- Rows of earned value and of the outline on small books, by computation: what is spent is there where the row's own budget is not 0, and what hangs on a circle has no
+-- line.
 use Prim.Native.Nat.{ℕ, _-_, _^_}
 use mathlib.Core.Path.{_≡_}
 use mathlib.Core.List.{List, [], _∷_}
 use Rattle.money.specs.Scale.{inRange, scaledBy}
 use Rattle.format.specs.Book.{Calendar}
 use Rattle.model.proofs.SpentCases.{freeRepair, spentZero, totalCancels, noLeaf, empty, rows-figured, totals-figured}
+use Rattle.model.proofs.OutlineCases.{outlineCircle, outlineFigures, circleLeaf, books-outlined, figures-outlined}
 use Rattle.rows.specs.Rows.{optional}
-use Rattle.answers.specs.Rows.{earnedRow, earnedValueRows, projectEarnedRows}
+use Rattle.answers.specs.Rows.{earnedRow, earnedValueRows, projectEarnedRows, outlineRow, outlineRows}
 
 -- a row of zeros: no budget, nothing spent, and no share
 abbrev zeros : List ℕ
@@ -23,6 +25,13 @@ cancelled = 0 ∷ 0 ∷ 0 ∷ 6 ∷ 0 ∷ 0 ∷ 0 ∷ []
 -- 3 of −5: −6,000
 abbrev credit : List ℕ
 credit = (2 ^ 64 - 5) ∷ (2 ^ 64 - 5) ∷ 0 ∷ 3 ∷ 0 ∷ 1 ∷ (2 ^ 64 - 6000) ∷ []
+
+-- 7 planned, nothing spent of it; and 1
+abbrev seven : List ℕ
+seven = 7 ∷ 7 ∷ 0 ∷ 0 ∷ 0 ∷ 1 ∷ 0 ∷ []
+
+abbrev single : List ℕ
+single = 1 ∷ 1 ∷ 0 ∷ 0 ∷ 0 ∷ 1 ∷ 0 ∷ []
 
 module _ (calendar : Calendar) where
   pub rows-spent :
@@ -44,3 +53,14 @@ module _ (calendar : Calendar) where
       × (projectEarnedRows 47481 (empty calendar) ≡ zeros ∷ [])
   unfolding projectEarnedRows earnedRow optional scaledBy inRange
   totals-spent = let f = totals-figured calendar in (rw (f .0), rw (f .1), rw (f .2), rw (f .3), rw (f .4))
+
+  -- 7 under a top beside a circle; a parent's own charge is not in its row; nothing where all is on a circle
+  pub rows-outlined :
+      (outlineRows 47481 (outlineCircle calendar) ≡ (1 ∷ 2 ∷ seven) ∷ (2 ∷ 3 ∷ seven) ∷ [])
+      × (outlineRows 47481 (outlineFigures calendar) ≡ (1 ∷ 0 ∷ single) ∷ (2 ∷ 1 ∷ single) ∷ [])
+      × (outlineRows 47481 (circleLeaf calendar) ≡ [])
+  unfolding outlineRows outlineRow earnedRow optional scaledBy inRange
+  rows-outlined =
+      let b = books-outlined calendar in
+      let f = figures-outlined calendar in
+      (rw (b .0, f .0, f .1), rw (b .1, f .2, f .3), rw (b .2))

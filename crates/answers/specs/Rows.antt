@@ -1,5 +1,5 @@
 -- The rows of each call: numbers in the field order of the Rust's structs, signed ones in two's complement, floats as their bits, an absent value as 0 0, a present one as 1 and it.
-use Prim.Native.Nat.{ℕ}
+use Prim.Native.Nat.{ℕ, _+_}
 use mathlib.Core.Bool.{Bool, cond}
 use mathlib.Core.List.{List, [], _∷_, _++_, map, flatMap}
 use mathlib.Core.Option.{Option, none, some, Option·map}
@@ -15,6 +15,7 @@ use Rattle.model.specs.declared.Indices.{Indices}
 use Rattle.model.specs.Amounts.{Dated}
 use Rattle.model.specs.Forecast.{indicesOf, etc, eac, vac}
 use Rattle.model.specs.Tree.{parents, indices}
+use Rattle.model.specs.Outline.{Line, outline}
 use Rattle.model.specs.Costs.{costs, projectCost, actualByKind, spendingBetween}
 use Rattle.model.specs.Months.{spendingByMonth}
 use Rattle.model.specs.Planned.{plannedCurveBetween}
@@ -87,6 +88,18 @@ earnedValueRows date book = map earnedRow (earnedValue book date)
 -- one row
 unfoldable pub projectEarnedRows : ℕ → Book → Rows
 projectEarnedRows date book = earnedRow (projectEarned book date) ∷ []
+
+-- how many numbers a row of the outline has: `OUTLINE_WIDTH` of src/lib.rt
+abbrev pub outlineWidth : ℕ
+outlineWidth = 2 + earnedWidth
+
+-- the line's level and index, then the row of that activity in `earned_value`
+unfoldable pub outlineRow : ℕ → Book → Line → List ℕ
+outlineRow date book x = x .level ∷ x .index ∷ earnedRow (earnedAt book date (x .index))
+
+-- a row for each line of the outline, at a status date
+unfoldable pub outlineRows : ℕ → Book → Rows
+outlineRows date book = map (outlineRow date book) (outline (parents book))
 
 -- one row of one number: how much of an activity is done, under the book's technique
 unfoldable pub performanceRows : ℕ → Book → Rows

@@ -14,6 +14,9 @@ pub const TOO_SHORT: u64 = 10;
 // The numbers of a row of earned value: `earnedWidth` of specs/Rows.antt.
 pub const EARNED_WIDTH: usize = 7;
 
+// Those of a row of the outline: `outlineWidth`.
+pub const OUTLINE_WIDTH: usize = 2 + EARNED_WIDTH;
+
 // Accepted, with the count of rows, or the refusal, its number and its place.
 pub enum Reply {
     Accepted(u64),

@@ -13,6 +13,7 @@ use curve::planned_curve_of;
 use periods::period_points_of;
 use progress::indices::indices_of;
 use progress::indices::project_indices_of;
+use progress::outline::outline_of;
 use progress::performance::performance_of;
 use progress::project::project_earned_of;
 use progress::rolled::earned_value_of;
@@ -20,7 +21,7 @@ use spending::spending_by_month_of;
 use spending::spending_of;
 use variances::variances_of;
 ghost use mathlib.Core.List.{[], _∷_};
-ghost use Rattle.answers.specs.Rows.{costsRows, projectCostRows, actualByKindRows, spendingRows, spendingByMonthRows, earnedValueRows, projectEarnedRows, plannedCurveRows, performanceRows, indicesRows, projectIndicesRows, periodPointsRows, variancesRows, budgetRows, fundingRows};
+ghost use Rattle.answers.specs.Rows.{costsRows, projectCostRows, actualByKindRows, spendingRows, spendingByMonthRows, earnedValueRows, projectEarnedRows, outlineRows, plannedCurveRows, performanceRows, indicesRows, projectIndicesRows, periodPointsRows, variancesRows, budgetRows, fundingRows};
 ghost use Rattle.answers.specs.Calls.{activityAsked, dateAsked, Answers};
 
 // Each activity's budget, actual and remaining cost.
@@ -98,6 +99,17 @@ pub fn project_earned(book: &[u8], date: u64, out: &mut [u64]) -> Reply
         return Reply::Refused(opening.number, opening.place);
     }
     project_earned_of(book, opening.opened, date, out)
+}
+
+// The lines of the outline at a status date, each with its activity's figures.
+pub fn outline(book: &[u8], date: u64, out: &mut [u64]) -> Reply
+    ensures { λ r. ⌜ Answers (dateAsked date ∷ []) (outlineRows date) (now (book .entry)) (now (out .entry)) r (now (out .exit)) ⌝ }
+{
+    let opening = ask_date(open(book), date);
+    if opening.refused {
+        return Reply::Refused(opening.number, opening.place);
+    }
+    outline_of(book, opening.opened, date, out)
 }
 
 // The planned value by date, between two dates, both included.

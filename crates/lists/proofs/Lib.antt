@@ -1,3 +1,4 @@
 pub mod Lists
+pub mod Distinct
 pub mod Spans
 pub mod Search

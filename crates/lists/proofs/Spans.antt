@@ -2,11 +2,12 @@
 use Prim.Native.Nat.{ℕ, zero, suc, _+_, _≤_, _<_}
 use mathlib.Core.Path.{_≡_, refl, ap, _∙_}
 use mathlib.Core.Logic.{⊎-elim}
-use mathlib.Core.List.{_∷_, map, List·Memᴰ, List·Memᴰ·head, List·Memᴰ·tail, List·Memᴰ·not-nil, List·Memᴰ·cases-cons}
+use mathlib.Core.List.{List, _∷_, map, List·Memᴰ, List·Memᴰ·head, List·Memᴰ·tail, List·Memᴰ·not-nil, List·Memᴰ·cases-cons}
 use native.Mathlib.Omega.{arith}
 use native.Mathlib.Nat.{zero-add}
 use native.Mathlib.Decide.{ℕ-discrete}
 use lib.ListN.{length, getD, length-map}
+use lib.Seq.{ext-getD}
 use Rattle.lists.specs.Lists.{span}
 
 pub span-length : (a n : ℕ) → length (span a n) ≡ n
@@ -49,3 +50,10 @@ from-at a (suc n) (suc i) h = omega (arith, from-at (suc a) n i (omega arith))
 
 pub span-at : (n i : ℕ) → i < n → getD (span 0 n) i 0 ≡ i
 span-at n i h = from-at 0 n i h ∙ zero-add i
+
+-- the elements of a list, by their places
+pub elements : {A : Type 0} (xs : List A) (d : A) → map (λ (k : ℕ). getD xs k d) (span 0 (length xs)) ≡ xs
+elements {A} xs d = ext-getD d (map at (span 0 (length xs))) xs (made-length at (length xs)) (λ k h. made-at at d (length xs) k (omega (arith, made-length at (length xs))))
+  where
+    at : ℕ → A
+    at k = getD xs k d

@@ -3,6 +3,11 @@ pub mod Calendar
 pub mod Days
 pub mod Pigeonhole
 pub mod Tree
+pub mod Up
+pub mod Branches
+pub mod Siblings
+pub mod Circles
+pub mod Outline
 pub mod RollUp
 pub mod Totals
 pub mod Points
@@ -18,6 +23,7 @@ pub mod Demand
 pub mod Example
 pub mod Cases
 pub mod SpentCases
+pub mod OutlineCases
 pub mod Forecast
 pub mod BudgetCases
 pub mod Pinned

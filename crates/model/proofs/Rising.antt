@@ -8,6 +8,7 @@ use native.Mathlib.Omega.{arith}
 use lib.ListN.{length, getD}
 use Rattle.lists.specs.Lists.{span, consIf, keep}
 use Rattle.lists.proofs.Lists.{first-at}
+use Rattle.lists.proofs.Distinct.{Distinct}
 use Rattle.format.specs.InRange.{Rising}
 
 keep-from : (p : ℕ → Bool) (a n k : ℕ) → k < length (keep p (span a n)) → a ≤ getD (keep p (span a n)) k 0
@@ -56,3 +57,7 @@ rising-same (x ∷ xs) (y ∷ ys) r s f g =
 
     inner : {d z : ℕ} {zs : List ℕ} → List·Memᴰ d (z ∷ zs) → (d ≡ z → ⊥) → List·Memᴰ d zs
     inner m h = ⊎-elim (λ e. absurd (h e)) (λ n. n) (List·Memᴰ·cases-cons m)
+
+pub rising-distinct : (xs : List ℕ) → Rising xs → Distinct xs
+rising-distinct [] r = tt
+rising-distinct (x ∷ xs) r = (λ m. omega (arith, least x xs r x m), rising-distinct xs (rest-rises x xs r))

@@ -30,7 +30,7 @@ abbrev started : Option ℕ → Activity
 started parent = activity parent InProgress 20000 20000 (some 20000) none
 
 -- planned and paid, with nothing left to pay
-abbrev paid : ℕ → ℤ → ℤ → Expense
+abbrev pub paid : ℕ → ℤ → ℤ → Expense
 paid i planned actual = record { activity = i; accrual = Uniform; planned = planned; actual = actual; remaining = pos 0 }
 
 -- all of the budget planned, nothing earned, so much spent
@@ -38,10 +38,10 @@ abbrev pub figures : ℤ → ℤ → Earned
 figures budget actual = record { budget = budget; planned = budget; earned = pos 0; actual = actual; remaining = pos 0 }
 
 module _ (calendar : Calendar) where
-  one : dayList calendar 20000 20000 ≡ 20000 ∷ []
+  pub one : dayList calendar 20000 20000 ≡ 20000 ∷ []
   one = day-list-one calendar 20000 20000 (omega arith)
 
-  abbrev small : List Activity → List Expense → Book
+  abbrev pub small : List Activity → List Expense → Book
   small activities expenses = book calendar none activities [] [] expenses
 
   -- `free-repair`: 700 spent without a budget

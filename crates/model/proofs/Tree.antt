@@ -67,7 +67,7 @@ module _ (ps : Parents) where
   cut (suc m) (suc k) none h = refl
   cut (suc m) (suc k) (some p) h = ap (λ (l : List ℕ). p ∷ l) (cut m k (parentOf ps p) (omega arith))
 
-  has-parent : (x q : ℕ) → parentOf ps x ≡ some q → x < length ps
+  pub has-parent : (x q : ℕ) → parentOf ps x ≡ some q → x < length ps
   has-parent x q e = go (decLt x (length ps))
     where
       go : Dec (x < length ps) → x < length ps

@@ -3,6 +3,7 @@ pub mod Calendar
 pub mod Days
 pub mod Amounts
 pub mod Tree
+pub mod Outline
 pub mod Costs
 pub mod Planned
 pub mod Earned

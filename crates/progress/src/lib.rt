@@ -1,5 +1,6 @@
-// How a project stands at a status date: earned value of the activities and of the project, how much of an activity is done.
+// How a project stands at a status date: earned value of the activities, in outline and of the project, how much of an activity is done.
 pub mod indices;
+pub mod outline;
 pub mod own;
 pub mod performance;
 pub mod project;

@@ -14,9 +14,11 @@ use value::earned_at;
 use value::put_values;
 ghost use Prim.Native.Nat.{_*_, _<_};
 ghost use mathlib.Core.Path.{_≡_};
+ghost use mathlib.Core.List.{map};
 ghost use lib.ListN.{length};
 ghost use Rattle.format.specs.Verdict.{content};
 ghost use Rattle.model.specs.Earned.{earnedAt};
+ghost use Rattle.spans.specs.Columns.{parentNumber};
 ghost use Rattle.tree.specs.Tables.{rolledValues};
 ghost use Rattle.rows.specs.Rows.{numbers};
 ghost use Rattle.answers.specs.Rows.{earnedWidth, earnedValueRows};
@@ -35,14 +37,50 @@ fn roll_own(
 )
     requires { ⌜ IsOpened (now book) opened ⌝ }
     requires { ⌜ (length (now schedule) ≡ opened .plan .activities .count * 13) × (length (now own) ≡ opened .plan .activities .count * 5) × (length (now parents) ≡ opened .plan .activities .count) × (length (now out) ≡ opened .plan .activities .count * 5) ⌝ }
-    ensures { λ r. ⌜ now (out .exit) ≡ rolledValues (content (now (book .entry))) date ⌝ }
+    ensures parents { λ r. ⌜ now (parents .exit) ≡ map parentNumber (content (now (book .entry)) .activities) ⌝ }
+    ensures out { λ r. ⌜ now (out .exit) ≡ rolledValues (content (now (book .entry))) date ⌝ }
 {
     own_values(book, opened, date, schedule, own);
     copy_parents(schedule, parents);
     roll_rows(parents, VALUE_WIDTH, own, out);
 }
 
-// The same, with room for the tables: small ones for few activities.
+// The parents and the rolled figures, with room for the tables: small ones for few activities.
+pub fn roll_tree(book: &[u8], opened: Opened, date: u64, parents: &mut [u64], out: &mut [i64])
+    requires { ⌜ IsOpened (now book) opened ⌝ }
+    requires { ⌜ (length (now parents) ≡ opened .plan .activities .count) × (length (now out) ≡ opened .plan .activities .count * 5) ⌝ }
+    ensures parents { λ r. ⌜ now (parents .exit) ≡ map parentNumber (content (now (book .entry)) .activities) ⌝ }
+    ensures out { λ r. ⌜ now (out .exit) ≡ rolledValues (content (now (book .entry))) date ⌝ }
+{
+    let n = opened.plan.activities.count as usize;
+    if n <= FEW {
+        let mut schedule = [0u64; 416];
+        let mut own = [0i64; 160];
+        roll_own(
+            book,
+            opened,
+            date,
+            &mut schedule[..n * SCHEDULE_WIDTH],
+            &mut own[..n * VALUE_WIDTH],
+            parents,
+            out,
+        );
+        return;
+    }
+    let mut schedule = [0u64; 6500];
+    let mut own = [0i64; 2500];
+    roll_own(
+        book,
+        opened,
+        date,
+        &mut schedule[..n * SCHEDULE_WIDTH],
+        &mut own[..n * VALUE_WIDTH],
+        parents,
+        out,
+    );
+}
+
+// The rolled figures alone.
 fn roll_values(book: &[u8], opened: Opened, date: u64, out: &mut [i64])
     requires { ⌜ IsOpened (now book) opened ⌝ }
     requires { ⌜ length (now out) ≡ opened .plan .activities .count * 5 ⌝ }
@@ -50,32 +88,12 @@ fn roll_values(book: &[u8], opened: Opened, date: u64, out: &mut [i64])
 {
     let n = opened.plan.activities.count as usize;
     if n <= FEW {
-        let mut schedule = [0u64; 416];
-        let mut own = [0i64; 160];
         let mut parents = [0u64; 32];
-        roll_own(
-            book,
-            opened,
-            date,
-            &mut schedule[..n * SCHEDULE_WIDTH],
-            &mut own[..n * VALUE_WIDTH],
-            &mut parents[..n],
-            out,
-        );
+        roll_tree(book, opened, date, &mut parents[..n], out);
         return;
     }
-    let mut schedule = [0u64; 6500];
-    let mut own = [0i64; 2500];
     let mut parents = [0u64; 500];
-    roll_own(
-        book,
-        opened,
-        date,
-        &mut schedule[..n * SCHEDULE_WIDTH],
-        &mut own[..n * VALUE_WIDTH],
-        &mut parents[..n],
-        out,
-    );
+    roll_tree(book, opened, date, &mut parents[..n], out);
 }
 
 // The rows, from a table of the rolled figures.

@@ -30,16 +30,17 @@ fn call_of_one(place: u64, book: &[u8], value: u64, out: &mut [u64]) -> Reply {
         8 => engine::earned_value(book, value, out),
         9 => engine::project_earned(book, value, out),
         10 => engine::performance(book, value, out),
-        _ => engine::project_indices(book, value, out),
+        11 => engine::project_indices(book, value, out),
+        _ => engine::outline(book, value, out),
     }
 }
 
 // The same by one that is asked with two dates, or with an activity and a date.
 fn call_of_two(place: u64, book: &[u8], first: u64, second: u64, out: &mut [u64]) -> Reply {
     match place {
-        12 => engine::spending(book, first, second, out),
-        13 => engine::planned_curve(book, first, second, out),
-        14 => engine::indices(book, first, second, out),
+        13 => engine::spending(book, first, second, out),
+        14 => engine::planned_curve(book, first, second, out),
+        15 => engine::indices(book, first, second, out),
         _ => Reply::Refused(NO_CALL, 0),
     }
 }
@@ -49,7 +50,7 @@ fn call(place: u64, book: &[u8], first: u64, second: u64, out: &mut [u64]) -> Re
     if place < 8 {
         return plain_call(place, book, out);
     }
-    if place < 12 {
+    if place < 13 {
         return call_of_one(place, book, first, out);
     }
     call_of_two(place, book, first, second, out)
@@ -92,7 +93,7 @@ pub fn replay(line: &[u8], from: usize) -> Outcome {
     }
     let place = names::place(
         &line[from..end],
-        b"costs project_cost actual_by_kind spending_by_month period_points variances budget funding earned_value project_earned performance project_indices spending planned_curve indices ",
+        b"costs project_cost actual_by_kind spending_by_month period_points variances budget funding earned_value project_earned performance project_indices outline spending planned_curve indices ",
     );
     vectors::untold(holds(line, place, end + 1))
 }

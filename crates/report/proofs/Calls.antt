@@ -1,4 +1,4 @@
--- What the calls of the status answer, and what they leave in lent memory. Assumes nothing.
+-- What the calls of the status and of the outline answer, and what they leave in lent memory. Assumes nothing.
 use Prim.Native.Nat.{ℕ, _+_, _*_, _-_, _≤_}
 use native.Mathlib.Omega.{arith}
 use mathlib.Core.Path.{_≡_, refl, sym, ap, ap₂, _∙_}
@@ -18,22 +18,25 @@ use Rattle.format.specs.Verdict as format
 use Rattle.format.proofs.Theorems.{content-in-range, content-limits, verdict-accepts}
 use Rattle.rows.specs.Rows.{numbers}
 use Rattle.model.specs.Tree.{parents}
+use Rattle.model.specs.Outline.{outline}
 use Rattle.model.specs.Planned.{plannedCurveBetween}
 use Rattle.model.specs.Earned.{projectEarned}
 use Rattle.model.proofs.Tree.{parents-count}
+use Rattle.model.proofs.Outline.{outline-is}
 use Rattle.answers.specs.declared.Reply.{Reply}
 use Rattle.answers.specs.declared.Reply.the-variants.{Accepted, Refused}
-use Rattle.answers.specs.Rows.{Rows, pointRow, earnedWidth, earnedRow, earnedValueRows, projectEarnedRows, plannedCurveRows}
+use Rattle.answers.specs.Rows.{Rows, pointRow, earnedWidth, earnedRow, earnedValueRows, projectEarnedRows, outlineWidth, outlineRows, plannedCurveRows}
 use Rattle.answers.specs.Calls.{Condition, isDate, checked, fitted, replyAt, replyNumber, replyPlace, reply, Answers}
 use Rattle.answers.proofs.Replies.{met, none-asked}
 use Rattle.answers.proofs.Sized.{Sized, sized, one-numbers}
-use Rattle.answers.proofs.SizedEarned.{values-sized, project-sized}
+use Rattle.answers.proofs.SizedEarned.{values-sized, project-sized, outline-sized}
 use Rattle.answers.proofs.Accepted.{accepted-book, accepted-count, accepted-lent}
 use Rattle.engine.specs.Demand.{IsAccepted, atDate, between}
 use Rattle.engine.proofs.Demand.{accepted-call}
-use Rattle.report.specs.Lines.{activityLines, pointLines}
+use Rattle.report.specs.Lines.{refusalLine, activityLines, outlineLines, pointLines}
 use Rattle.report.specs.Status.{askedAt, EarnedIn, curveText}
-use Rattle.report.proofs.Rows.{activities-in, points-in}
+use Rattle.report.specs.Outline.{listedText, outlinedAt, outlineText}
+use Rattle.report.proofs.Rows.{activities-in, outline-in, points-in}
 use Rattle.report.proofs.Stretches.{few-points}
 
 is-date : (d : ℕ) → 10957 ≤ d → d ≤ 47481 → isDate d ≡ true
@@ -90,6 +93,49 @@ module _ (s : List ℕ) (bytes : Bytes s) {day : ℕ} (asked : day ≡ askedAt (
         accepted-call (atDate day) (earnedValueRows day) s (length out) v (met (ap isDate asked ∙ asked-in-range s w) none-asked)
         (omega (arith, values-sized day (content s) (length (content s .activities)) refl .long, content-limits s w .activities, size)))
         (sym (a .answer) ∙ e)
+
+-- ---- the outline
+module _ (s : List ℕ) (bytes : Bytes s) {day : ℕ} (asked : day ≡ askedAt (content s .dataDate)) {out after : List ℕ} {r : Reply}
+    (a : Answers (atDate day) (outlineRows day) s out r after) where
+  abbrev listed : ℕ
+  listed = length (outline (parents (content s)))
+
+  few-lines : {j : ℕ} → verdict s ≡ place.At j → listed ≤ 500
+  few-lines {j} v = omega (arith, outline-is (parents (content s)) .room, parents-count (content s), content-limits s (verdict-accepts s bytes j v) .activities)
+
+  -- where the call is accepted, there is a row for each line
+  module _ {count : ℕ} (e : r ≡ Accepted count) where
+    outlined : reply (atDate day) (outlineRows day) s (length out) ≡ Accepted count
+    outlined = sym (a .answer) ∙ e
+
+    all : count ≡ listed
+    all = accepted-count (atDate day) (outlineRows day) s out outlined ∙ outline-sized day (content s) listed refl .many
+
+    pub outline-few : count ≤ 500
+    outline-few = omega (arith, all, few-lines (accepted-book (atDate day) (outlineRows day) s out outlined .1))
+
+    pub outline-room : length after ≡ 500 * outlineWidth → count * outlineWidth ≤ length after
+    outline-room kept = omega (arith, outline-few, kept)
+
+    pub outline-lines : outlineLines after count ≡ outlineText s
+    unfolding outlineText
+    outline-lines =
+        ap₂ outlineLines (a .lent ∙ accepted-lent (atDate day) (outlineRows day) s out outlined) all
+        ∙ outline-in (content s) day (drop (length (numbers (outlineRows day (content s)))) out)
+        ∙ ap (listedText (content s)) asked
+        ∙ ap (λ (p : Pos). outlinedAt p (content s)) (sym (accepted-book (atDate day) (outlineRows day) s out outlined .1))
+
+  -- it is refused where the book is
+  pub outline-refused : length out ≡ 500 * outlineWidth → {e p : ℕ} → r ≡ Refused e p → refusalLine e p ≡ outlineText s
+  unfolding outlineText
+  outline-refused size e =
+      ap (λ (p : Pos). outlinedAt p (content s))
+      (sym
+      (book-refuses (atDate day) (outlineRows day) s (length out)
+      (λ j v.
+      accepted-call (atDate day) (outlineRows day) s (length out) v (met (ap isDate asked ∙ asked-in-range s (verdict-accepts s bytes j v)) none-asked)
+      (omega (arith, outline-sized day (content s) listed refl .long, few-lines v, size)))
+      (sym (a .answer) ∙ e)))
 
 -- the project's row, where just its numbers are lent
 pub project-row :

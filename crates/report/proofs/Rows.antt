@@ -5,10 +5,10 @@ use native.Mathlib.Numerals.{add-one}
 use mathlib.Core.Path.{_≡_, refl, sym, ap, ap₂, _∙_}
 use mathlib.Core.List.{List, [], _++_, map, flatMap, append-assoc, append-nil}
 use lib.IntN.{pos}
-use lib.ListN.{length, getD, take, drop}
-use lib.Seq.{drop-append-le, drop-cons, drop-drop, getD-drop, take-at, ext-getD}
+use lib.ListN.{length, getD, take, drop, length-drop}
+use lib.Seq.{drop-append-le, drop-cons, drop-drop, getD-drop, take-at, take-all, ext-getD}
 use Rattle.lists.specs.Lists.{span}
-use Rattle.lists.proofs.Spans.{span-in, made-at, made-length}
+use Rattle.lists.proofs.Spans.{span-in, made-at, made-length, elements}
 use Rattle.flat.proofs.Cells.{row-inside}
 use Rattle.flat.proofs.Tables.{flat-same, flat-map, flat-length, flat-drop}
 use Rattle.format.specs.Book.{Book}
@@ -16,13 +16,16 @@ use Rattle.rows.specs.Rows.{numbers}
 use Rattle.rows.proofs.Numbers.{numbers-flat}
 use Rattle.model.specs.Amounts.{Dated, on}
 use Rattle.model.specs.Tree.{parents, indices}
+use Rattle.model.specs.Outline.{Line, outline, lineAt}
+use Rattle.model.specs.Outline as model
 use Rattle.model.specs.Earned.{earnedAt, earnedValue}
-use Rattle.answers.specs.Rows.{pointRow, earnedWidth, earnedRow, earnedValueRows}
-use Rattle.answers.proofs.SizedEarned.{row-wide}
-use Rattle.text.specs.Text.{decimal, line}
+use Rattle.answers.specs.Rows.{pointRow, earnedWidth, earnedRow, earnedValueRows, outlineWidth, outlineRow, outlineRows}
+use Rattle.answers.proofs.SizedEarned.{row-wide, line-wide}
+use Rattle.text.specs.Text.{decimal, pair, line}
 use Rattle.text.proofs.Spelling.{same, both}
-use Rattle.report.specs.Lines.{earnedLine, pointLine, activityLineIn, pointLineIn, activityLines, pointLines}
+use Rattle.report.specs.Lines.{earnedLine, outlineRowLine, pointLine, activityLineIn, outlineLineIn, pointLineIn, activityLines, outlineLines, pointLines}
 use Rattle.report.specs.Status.{activityLine, curveLine}
+use Rattle.report.specs.Outline.{outlineLine, listedText}
 
 -- ---- one line more, and all of them
 module _ (lineAt : ℕ → List ℕ) (n : ℕ) where
@@ -57,10 +60,23 @@ pub led : (head row xs : List ℕ) {ys zs : List ℕ} → ys ≡ xs ++ head → 
 unfolding earnedLine
 led head row xs e f = both xs head (earnedLine [] row) e f
 
+-- the columns of a row of the outline, behind its level and its index
+pub outline-led :
+    (row xs : List ℕ) {ys zs : List ℕ} → ys ≡ xs ++ pair (getD row 0 0) (getD row 1 0) → zs ≡ ys ++ earnedLine [] (take (length row - 2) (drop 2 row)) → zs ≡ xs ++ outlineRowLine row
+unfolding outlineRowLine
+outline-led row xs {ys = ys} e f =
+    let all : take (length row - 2) (drop 2 row) ≡ drop 2 row = take-all (length row - 2) (drop 2 row) (omega (arith, length-drop 2 row)) in
+    led (pair (getD row 0 0) (getD row 1 0)) (drop 2 row) xs e (same ys f (ap (earnedLine []) all))
+
 pub activity-put :
     (lent : List ℕ) (i : ℕ) (xs : List ℕ) {ys : List ℕ} →
     ys ≡ xs ++ earnedLine (decimal i) (take (i * earnedWidth + earnedWidth - i * earnedWidth) (drop (i * earnedWidth) lent)) → ys ≡ xs ++ activityLineIn lent i
 activity-put lent i xs e = same xs e (ap (earnedLine (decimal i)) (part-of lent (i * earnedWidth) earnedWidth (i * earnedWidth + earnedWidth) refl))
+
+pub outline-put :
+    (lent : List ℕ) (i : ℕ) (xs : List ℕ) {ys : List ℕ} →
+    ys ≡ xs ++ outlineRowLine (take (i * outlineWidth + outlineWidth - i * outlineWidth) (drop (i * outlineWidth) lent)) → ys ≡ xs ++ outlineLineIn lent i
+outline-put lent i xs e = same xs e (ap outlineRowLine (part-of lent (i * outlineWidth) outlineWidth (i * outlineWidth + outlineWidth) refl))
 
 pub point-put :
     (lent : List ℕ) (i : ℕ) (xs : List ℕ) {ys : List ℕ} →
@@ -97,6 +113,32 @@ activities-in book date rest = flat-same _ _ (span 0 n) (λ i m. ap (earnedLine 
         ap (take earnedWidth) (row-on earnedWidth earnedRow row-wide es (earnedAt book date 0) rest i (omega (arith, made-length (earnedAt book date) n)))
         ∙ take-at (earnedRow x) (flatMap earnedRow (drop (suc i) es) ++ rest) earnedWidth (row-wide x)
         ∙ ap earnedRow (made-at (earnedAt book date) (earnedAt book date 0) n i (omega arith))
+
+row-line : (book : Book) (date : ℕ) (x : Line) → outlineRowLine (outlineRow date book x) ≡ outlineLine book date x
+unfolding outlineRowLine outlineRow outlineLine
+row-line book date x = refl
+
+-- those of the rows of `outline` are the outline's
+pub outline-in :
+    (book : Book) (date : ℕ) (rest : List ℕ) → outlineLines (numbers (outlineRows date book) ++ rest) (length (outline (parents book))) ≡ listedText book date
+unfolding outlineLines listedText outlineRows
+outline-in book date rest =
+    flat-same (outlineLineIn lent) (λ k. outlineLine book date (lineAt xs k)) (span 0 (length xs)) (λ k m. at k (span-in 0 (length xs) k m .1))
+    ∙ sym (flat-map (outlineLine book date) (lineAt xs) (span 0 (length xs)))
+    ∙ ap (flatMap (outlineLine book date)) (elements xs (model.line 0 0))
+  where
+    xs : List Line
+    xs = outline (parents book)
+
+    lent : List ℕ
+    lent = numbers (map (outlineRow date book) xs) ++ rest
+
+    at : (k : ℕ) → k < 0 + length xs → outlineLineIn lent k ≡ outlineLine book date (lineAt xs k)
+    at k h =
+        let x = lineAt xs k in
+        ap outlineRowLine
+        (ap (take outlineWidth) (row-on outlineWidth (outlineRow date book) (line-wide date book) xs (model.line 0 0) rest k (omega arith)) ∙ take-at (outlineRow date book x) _ outlineWidth (line-wide date book x))
+        ∙ row-line book date x
 
 -- and those of points in lent memory are the points'
 pub points-in :

@@ -16,6 +16,7 @@ use lines::put_points;
 use lines::put_refusal;
 
 pub mod lines;
+pub mod outline;
 
 // How many pages a status has.
 pub const PAGES: u64 = 4;

@@ -4,15 +4,17 @@ ghost use mathlib.Core.Path.{_≡_};
 ghost use mathlib.Core.List.{[], _++_};
 ghost use Prim.Native.Nat.{_+_, _*_, _≤_};
 ghost use lib.ListN.{length, take};
-ghost use Rattle.answers.specs.Rows.{earnedWidth};
+ghost use Rattle.answers.specs.Rows.{earnedWidth, outlineWidth};
 ghost use Rattle.text.specs.Text.{decimal};
-ghost use Rattle.report.specs.Lines.{earnedLine, activityLines, pointLines, refusalLine};
+ghost use Rattle.report.specs.Lines.{earnedLine, outlineRowLine, activityLines, outlineLines, pointLines, refusalLine};
 use answers::EARNED_WIDTH;
+use answers::OUTLINE_WIDTH;
 use text::put;
 use text::put_decimal;
 use text::put_figures;
 use text::put_last;
 use text::put_line;
+use text::put_pair;
 use text::put_row;
 
 // Puts the line of a refusal.
@@ -70,6 +72,34 @@ pub fn put_activities(out: &mut [u8], rows: &[u64], count: usize) -> usize
     while i < count {
         let at = i * EARNED_WIDTH;
         end = put_earned_row(out, end, i as u64, &rows[at..at + EARNED_WIDTH]);
+        i += 1;
+    }
+    end
+}
+
+// Puts the line of a row of the outline.
+fn put_outline_row(out: &mut [u8], at: usize, row: &[u64]) -> usize
+    requires { ⌜ length (now row) ≡ outlineWidth ⌝ }
+    requires { ⌜ at + 174 ≤ length (now out) ⌝ }
+    ensures { λ r. ⌜ r ≤ at + 174 ⌝ }
+    ensures { λ r. ⌜ take r (now (out .exit)) ≡ take at (now (out .entry)) ++ outlineRowLine (now (row .entry)) ⌝ }
+{
+    let head = put_pair(out, at, row[0], row[1]);
+    put_columns(out, head, &row[2..])
+}
+
+// Puts a line for each of the first rows of the outline.
+pub fn put_outline_rows(out: &mut [u8], rows: &[u64], count: usize) -> usize
+    requires { ⌜ count * outlineWidth ≤ length (now rows) ⌝ }
+    requires { ⌜ count * 174 ≤ length (now out) ⌝ }
+    ensures { λ r. ⌜ r ≤ count * 174 ⌝ }
+    ensures { λ r. ⌜ take r (now (out .exit)) ≡ outlineLines (now (rows .entry)) count ⌝ }
+{
+    let mut end: usize = 0;
+    let mut i: usize = 0;
+    while i < count {
+        let at = i * OUTLINE_WIDTH;
+        end = put_outline_row(out, end, &rows[at..at + OUTLINE_WIDTH]);
         i += 1;
     }
     end

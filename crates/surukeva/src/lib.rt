@@ -2,7 +2,7 @@
 ghost use mathlib.Core.List.{[], _∷_};
 ghost use mathlib.Core.Path.{_≡_};
 ghost use Rattle.format.specs.Verdict.{verdict, answerOf, answerNumber, answerPlace};
-ghost use Rattle.answers.specs.Rows.{costsRows, projectCostRows, actualByKindRows, spendingRows, spendingByMonthRows, earnedValueRows, projectEarnedRows, plannedCurveRows, performanceRows, indicesRows, projectIndicesRows, periodPointsRows, variancesRows, budgetRows, fundingRows};
+ghost use Rattle.answers.specs.Rows.{costsRows, projectCostRows, actualByKindRows, spendingRows, spendingByMonthRows, earnedValueRows, projectEarnedRows, outlineRows, plannedCurveRows, performanceRows, indicesRows, projectIndicesRows, periodPointsRows, variancesRows, budgetRows, fundingRows};
 ghost use Rattle.answers.specs.Calls.{activityAsked, dateAsked, Returns};
 use answers::give;
 use format::Answer;
@@ -101,6 +101,15 @@ pub extern "C" fn surukeva_project_earned(
     ensures { λ r. ⌜ Returns (dateAsked date ∷ []) (projectEarnedRows date) (now (book .entry)) (now (out .entry)) r (now (at .exit)) (now (out .exit)) ⌝ }
 {
     let answer = engine::project_earned(book, date, out);
+    give(answer, at)
+}
+
+// The outline, with each activity's earned value.
+#[no_mangle]
+pub extern "C" fn surukeva_outline(book: &[u8], date: u64, out: &mut [u64], at: &mut u64) -> u64
+    ensures { λ r. ⌜ Returns (dateAsked date ∷ []) (outlineRows date) (now (book .entry)) (now (out .entry)) r (now (at .exit)) (now (out .exit)) ⌝ }
+{
+    let answer = engine::outline(book, date, out);
     give(answer, at)
 }
 

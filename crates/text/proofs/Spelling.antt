@@ -12,7 +12,7 @@ use lib.ListN.{length, getD, take, drop, drop-of-length-le}
 use lib.Seq.{length-take-le, take-length, take-append-add, take-append-seam, drop-cons}
 use Rattle.io.specs.Digits.{digits, Fewest}
 use Rattle.money.specs.Words.{ofBits}
-use Rattle.text.specs.Text.{places, decimal, signed, marked, figures}
+use Rattle.text.specs.Text.{places, decimal, pair, signed, marked, figures}
 
 -- text behind text: the same text in other words, and two texts
 pub same : (xs : List ℕ) {zs s t : List ℕ} → zs ≡ xs ++ s → s ≡ t → zs ≡ xs ++ t
@@ -20,6 +20,11 @@ same xs e f = e ∙ ap (λ (z : List ℕ). xs ++ z) f
 
 pub both : (xs s t : List ℕ) {ys zs : List ℕ} → ys ≡ xs ++ s → zs ≡ ys ++ t → zs ≡ xs ++ (s ++ t)
 both xs s t e f = f ∙ ap (λ (z : List ℕ). z ++ t) e ∙ append-assoc xs s t
+
+-- a number, a blank and a number
+pub paired : (a b : ℕ) (xs : List ℕ) {ys zs ws : List ℕ} → ys ≡ xs ++ decimal a → zs ≡ ys ++ (32 ∷ []) → ws ≡ zs ++ decimal b → ws ≡ xs ++ pair a b
+unfolding pair
+paired a b xs {ys = ys} e f g = both xs (decimal a) (32 ∷ decimal b) e (both ys (32 ∷ []) (decimal b) f g)
 
 -- what is copied behind the first `at` bytes
 pub behind :

@@ -1,4 +1,4 @@
--- The status's lines as text, in ASCII.
+-- Lines of text, in ASCII.
 use Prim.Native.Nat.{ℕ, zero, suc, _/_}
 use mathlib.Core.Bool.{cond}
 use mathlib.Core.List.{List, [], _∷_, _++_}
@@ -20,6 +20,10 @@ decimal n = digits 10 (places 19 n) n
 unfoldable pub signed : ℤ → List ℕ
 signed (pos n) = decimal n
 signed (negsuc n) = 45 ∷ decimal (suc n)
+
+-- two numbers, a blank between them
+unfoldable pub pair : ℕ → ℕ → List ℕ
+pair a b = decimal a ++ (32 ∷ decimal b)
 
 -- what may be absent, as a mark and a number in two's complement: a hyphen where the mark is 0
 unfoldable pub marked : ℕ → ℕ → List ℕ

@@ -5,7 +5,7 @@ ghost use mathlib.Core.Path.{_≡_};
 ghost use Prim.Native.Nat.{_+_, _*_, _≤_};
 ghost use lib.ListN.{length, take};
 ghost use Rattle.money.specs.Words.{ofBits};
-ghost use Rattle.text.specs.Text.{decimal, signed, marked, figures, line};
+ghost use Rattle.text.specs.Text.{decimal, pair, signed, marked, figures, line};
 
 // Puts bytes.
 pub fn put(out: &mut [u8], at: usize, bytes: &[u8]) -> usize
@@ -26,6 +26,17 @@ pub fn put_decimal(out: &mut [u8], at: usize, n: u64) -> usize
     let mut digits = [0u8; 20];
     let count = io::decimal(n, &mut digits);
     put(out, at, &digits[..count])
+}
+
+// Puts two numbers, a blank between them.
+pub fn put_pair(out: &mut [u8], at: usize, first: u64, second: u64) -> usize
+    requires { ⌜ at + 41 ≤ length (now out) ⌝ }
+    ensures { λ r. ⌜ r ≤ at + 41 ⌝ }
+    ensures { λ r. ⌜ take r (now (out .exit)) ≡ take at (now (out .entry)) ++ pair first second ⌝ }
+{
+    let head = put_decimal(out, at, first);
+    let blank = put(out, head, b" ");
+    put_decimal(out, blank, second)
 }
 
 // Puts a number in two's complement, with its sign.

@@ -20,7 +20,7 @@ module _ (numbers : List ℕ) where
   abbrev pub ahead : ℕ → ℕ → List ℕ
   ahead limit at = steps (parentsOf numbers) limit (indexOf (length numbers) at)
 
-  parent-is : (i : ℕ) → i < length numbers → parentOf (parentsOf numbers) i ≡ indexOf (length numbers) (getD numbers i 0)
+  pub parent-is : (i : ℕ) → i < length numbers → parentOf (parentsOf numbers) i ≡ indexOf (length numbers) (getD numbers i 0)
   unfolding parentsOf
   parent-is i h = at-map (indexOf (length numbers)) numbers i 0 none h
 

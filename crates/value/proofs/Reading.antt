@@ -3,10 +3,10 @@ use Prim.Native.Nat.{ℕ, _+_, _*_, _<_}
 use native.Mathlib.Numerals.{add-one, add-two, add-three, add-four}
 use native.Mathlib.Omega.{arith}
 use mathlib.Core.Path.{_≡_, refl, ap, ap₂, sym, _∙_}
-use mathlib.Core.List.{List, map, flatMap}
+use mathlib.Core.List.{List, _∷_, map, flatMap}
 use mathlib.Core.Option.{Option, Option·map}
 use lib.IntN.{ℤ, pos}
-use lib.ListN.{length, getD, set, length-map}
+use lib.ListN.{length, getD, set, length-set, length-map}
 use lib.Seq.{sets}
 use Rattle.money.specs.Words.{bits}
 use Rattle.format.specs.Book.{Activity, Book}
@@ -22,8 +22,9 @@ use Rattle.tree.specs.Tables.{earnedFigures, rolledValues}
 use Rattle.flat.proofs.Spans.{rows-at}
 use Rattle.rows.specs.Rows.{numbers, optional}
 use Rattle.rows.proofs.Numbers.{numbers-flat}
-use Rattle.answers.specs.Rows.{earnedRow, earnedValueRows}
-use Rattle.value.specs.Figures.{earnedIn}
+use Rattle.answers.specs.Rows.{earnedRow, earnedValueRows, outlineWidth}
+use Rattle.answers.proofs.SizedEarned.{row-wide}
+use Rattle.value.specs.Figures.{earnedIn, outlinedIn}
 
 -- five figures set one behind the other
 pub five-set :
@@ -78,3 +79,23 @@ module _ (b : Book) (date : ℕ) (n : ℕ) (count : length (b .activities) ≡ n
       ∙ ap (λ (k : ℕ). flatMap (λ i. earnedRow (earnedAt b date i)) (span 0 k)) (sym parents-are)
       ∙ sym (flat-map earnedRow (earnedAt b date) (indices (parents b)))
       ∙ sym (numbers-flat earnedRow (map (earnedAt b date) (indices (parents b))))
+
+-- ---- the rows of the outline
+
+-- two numbers, and a row behind them
+pub two-length : (out : List ℕ) (at level index : ℕ) → length (set (set out at level) (at + 1) index) ≡ length out
+two-length out at level index = length-set (set out at level) (at + 1) index ∙ length-set out at level
+
+pub line-set :
+    (out : List ℕ) (at level index : ℕ) (e : Earned) {row : List ℕ} → row ≡ sets (set (set out at level) (at + 1) index) (at + 2) (earnedRow e) → row ≡ sets out at (level ∷ index ∷ earnedRow e)
+line-set out at level index e p = p ∙ rw (add-one at, add-two at) refl
+
+module _ (table : List ℤ) (lines : List ℕ) where
+  pub outlined-wide : (k : ℕ) → length (outlinedIn table lines k) ≡ outlineWidth
+  outlined-wide k = omega (arith, row-wide (earnedIn table (getD lines (k * 2 + 1) 0)))
+
+  -- the row of a line, with the figures that were read
+  pub outlined-set :
+      (out : List ℕ) (k : ℕ) {e : Earned} {row : List ℕ} → e ≡ earnedIn table (getD lines (k * 2 + 1) 0) →
+      row ≡ sets out (k * 9) (getD lines (k * 2) 0 ∷ getD lines (k * 2 + 1) 0 ∷ earnedRow e) → row ≡ sets out (k * 9) (outlinedIn table lines k)
+  outlined-set out k read p = p ∙ ap (λ (e : Earned). sets out (k * 9) (getD lines (k * 2) 0 ∷ getD lines (k * 2 + 1) 0 ∷ earnedRow e)) read

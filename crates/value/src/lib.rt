@@ -25,6 +25,8 @@ ghost use Rattle.rows.specs.Rows.{numbers};
 ghost use Rattle.answers.specs.Rows.{earnedWidth, earnedRow, earnedValueRows};
 ghost use Rattle.value.specs.Figures.{figures, earnedIn};
 
+pub mod lines;
+
 // The figures of activity i.
 pub fn earned_at(table: &[i64], i: usize) -> Earned
     requires { ⌜ i * figures + 4 < length (now table) ⌝ }

@@ -29,8 +29,10 @@ returns c =
     let s = made .before .before .before .before .before .before in
     let p = s .pre .0 .plan in
     let b = content (s .args .book .now) in
-    values-from b (s .args .date) (content-in-range (s .args .book .now) (p .accepted)) (omega (arith, activities-count p, activities-most p))
-    (copied .copy-parents .ensures b (made .own-values .ensures .0)) (made .own-values .ensures .1) (c .before .roll-rows .ensures)
+    let named = copied .copy-parents .ensures b (made .own-values .ensures .0) in (
+      named,
+      values-from b (s .args .date) (content-in-range (s .args .book .now) (p .accepted)) (omega (arith, activities-count p, activities-most p)) named (made .own-values .ensures .1) (c .before .roll-rows .ensures),
+    )
 
 pub roll-own-spec : {M : Type 1} → statement M
 roll-own-spec =

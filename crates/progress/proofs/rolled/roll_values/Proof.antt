@@ -1,6 +1,5 @@
--- `roll_values` meets its contract: the tables have room for the activities, few or not.
+-- `roll_values` meets its contract: the parents have room, few or not.
 use Prim.Native.Nat.{_≤_}
-use native.Mathlib.Omega.{arith}
 use mathlib.Core.Path.{sym}
 use lib.Seq.{length-take-le}
 use Rattle.book.proofs.Plan.{activities-most}
@@ -10,42 +9,28 @@ use Rattle.progress.proofs.rolled.roll_values.Tie as tie
 most : (s : tie.Start) → s .args .opened .plan .activities .count ≤ 500
 most s = activities-most (s .pre .0 .plan)
 
-roll-own-requires : tie.Need-roll-own-requires
-roll-own-requires c κs =
-    let few = c .before .before .before .before in
+roll-tree-requires : tie.Need-roll-tree-requires
+roll-tree-requires c κs =
+    let few = c .before .before in
     let s = few .before .before in
-    let h = few .if1 .taken in
-    (s .pre .0, (length-take-le _ _ (omega arith), length-take-le _ _ (omega arith), length-take-le _ _ h, s .pre .1))
+    (s .pre .0, (length-take-le _ _ (few .if1 .taken), s .pre .1))
 
-roll-own-requires-2 : tie.Need-roll-own-requires-2
-roll-own-requires-2 c κs =
-    let s = c .before .before .before .before .before .before in
-    let h = most s in
-    (s .pre .0, (length-take-le _ _ (omega arith), length-take-le _ _ (omega arith), length-take-le _ _ h, s .pre .1))
+roll-tree-requires-2 : tie.Need-roll-tree-requires-2
+roll-tree-requires-2 c κs =
+    let s = c .before .before .before .before in
+    (s .pre .0, (length-take-le _ _ (most s), s .pre .1))
 
 pub roll-values-spec : {M : Type 1} → statement M
 roll-values-spec =
     tie.close
     (tie.spec
-    (λ c. omega (arith, c .if1 .taken))
-    (λ c. omega (arith, c .if1 .taken))
-    (λ c. sym (length-take-le _ _ (omega (arith, c .before .if1 .taken))))
-    (λ c. omega (arith, c .before .if1 .taken))
-    (λ c. omega (arith, c .before .if1 .taken))
-    (λ c. sym (length-take-le _ _ (omega (arith, c .before .before .if1 .taken))))
-    (λ c. c .before .before .if1 .taken)
-    (λ c. sym (length-take-le _ _ (c .before .before .before .if1 .taken)))
-    roll-own-requires
+    (λ c. c .if1 .taken)
+    (λ c. sym (length-take-le _ _ (c .before .if1 .taken)))
+    roll-tree-requires
     (λ c. c .out .given)
-    (λ c. c .before .before .before .before .roll-own .ensures)
-    (λ c. omega (arith, most (c .before .before)))
-    (λ c. omega (arith, most (c .before .before)))
-    (λ c. sym (length-take-le _ _ (omega (arith, most (c .before .before .before)))))
-    (λ c. omega (arith, most (c .before .before .before)))
-    (λ c. omega (arith, most (c .before .before .before)))
-    (λ c. sym (length-take-le _ _ (omega (arith, most (c .before .before .before .before)))))
-    (λ c. most (c .before .before .before .before))
-    (λ c. sym (length-take-le _ _ (most (c .before .before .before .before .before))))
-    roll-own-requires-2
+    (λ c. c .before .before .roll-tree .ensures .1)
+    (λ c. most (c .before .before))
+    (λ c. sym (length-take-le _ _ (most (c .before .before .before))))
+    roll-tree-requires-2
     (λ c. c .out2 .given)
-    (λ c. c .before .before .before .before .roll-own2 .ensures))
+    (λ c. c .before .before .roll-tree2 .ensures .1))
