@@ -41,7 +41,7 @@ fn questions(call: &Call, book: &Book) -> Vec<Vec<u64>> {
             [FIRST_DAY - 1, LAST_DAY],
             [FIRST_DAY, LAST_DAY + 1],
         ]),
-        [Asked::Date] => each(&[[day + 1], [LAST_DAY], [beyond]]),
+        [Asked::Date] => each(&[[day - 1], [day], [day + 1], [day + 3], [LAST_DAY], [beyond]]),
         [Asked::Activity] => each(&[[0], [last], [count]]),
         [Asked::Activity, Asked::Date] => {
             each(&[[last, day + 1], [count, day + 1], [last, beyond], [count, beyond]])

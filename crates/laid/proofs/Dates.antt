@@ -9,7 +9,7 @@ use lib.Seq.{getD-append-seam}
 use Rattle.lists.specs.Lists.{span, consIf, keep}
 use Rattle.model.specs.Days.{datesBetween, orAlone}
 use Rattle.lists.proofs.Lists.{keep-append, keep-alike as keep-agreeing, map-same}
-use Rattle.lists.proofs.Spans.{span-in}
+use Rattle.lists.proofs.Spans.{span-length, span-in}
 use Rattle.model.proofs.Days.{kept-between}
 use Rattle.prices.proofs.Shares.{span-split}
 use Rattle.laid.specs.Listed.{Covers, IsSpan, spanOf}
@@ -24,6 +24,11 @@ last-of alone d (b ∷ before) =
 pub one-most : (b : Bool) (d : ℕ) → length (consIf b d []) ≤ 1
 one-most true d = omega arith
 one-most false d = omega arith
+
+-- how many dates there are
+pub dates-between : (first last : ℕ) → length (datesBetween first last) ≡ last + 1 - first
+unfolding datesBetween
+dates-between first last = span-length first (last + 1 - first)
 
 module _ (p : ℕ → Bool) where
   pub none-left : (first last : ℕ) → last < first → keep p (datesBetween first last) ≡ []

@@ -8,6 +8,7 @@ use lib.ListN.{length, getD}
 use Rattle.lists.specs.Lists.{keep}
 use Rattle.model.specs.Days.{datesBetween, orAlone}
 use Rattle.laid.specs.declared.days.Span.{Span}
+use Rattle.laid.specs.declared.days.Tested.{Tested}
 
 -- whether a date works, by the row that begins at entry `row` with the date `base`
 abbrev pub inRow : ℕ → ℕ → List ℕ → ℕ → Bool
@@ -17,7 +18,11 @@ inRow row base days date = eqb (getD days (row + (date - base)) 0) 1
 abbrev pub workedBetween : ℕ → ℕ → List ℕ → ℕ → ℕ → List ℕ
 workedBetween row base days first last = keep (inRow row base days) (datesBetween first last)
 
--- they, or the first date alone
+-- how many dates it has, and how many of them work
+abbrev pub testedBetween : ℕ → ℕ → List ℕ → ℕ → ℕ → Tested
+testedBetween row base days first last = record { tested = length (datesBetween first last); working = length (workedBetween row base days first last) }
+
+-- its working dates, or the first date alone
 abbrev pub listedBetween : ℕ → ℕ → List ℕ → ℕ → ℕ → List ℕ
 listedBetween row base days first last = orAlone first (workedBetween row base days first last)
 

@@ -2,7 +2,7 @@
 ghost use mathlib.Core.Path.{_≡_};
 ghost use Prim.Native.Nat.{_+_, _*_, _-_, _≤_, _<_};
 ghost use lib.ListN.{length, getD};
-ghost use Rattle.laid.specs.Listed.{inRow, workedBetween, listedIn, spanOf, Covers, IsSpan};
+ghost use Rattle.laid.specs.Listed.{inRow, testedBetween, listedIn, spanOf, Covers, IsSpan};
 
 // A span of dates: the row of its calendar, its own first and last date, and how many of its dates work.
 pub struct Span {
@@ -10,6 +10,12 @@ pub struct Span {
     pub base: u64,
     pub first: u64,
     pub last: u64,
+    pub working: u64,
+}
+
+// What is found on dates one after another: how many were tested, and how many of them work.
+pub struct Tested {
+    pub tested: u64,
     pub working: u64,
 }
 
@@ -21,20 +27,25 @@ pub fn is_working(days: &[u8], row: usize, base: u64, date: u64) -> bool
     days[row + (date - base) as usize] == 1
 }
 
-// How many dates of a span work.
-pub fn count_working(days: &[u8], row: usize, base: u64, first: u64, last: u64) -> u64
+// Tests each date from the first to the last, once. It counts in 16 bits, which are enough for all dates, so that eight are added at a time.
+pub fn test_dates(days: &[u8], row: usize, base: u64, first: u64, last: u64) -> Tested
     requires { ⌜ Covers row base (now days) first last ⌝ }
-    ensures { λ r. ⌜ r ≡ length (workedBetween row base (now (days .entry)) first last) ⌝ }
+    ensures { λ r. ⌜ r ≡ testedBetween row base (now (days .entry)) first last ⌝ }
 {
-    let mut n: u64 = 0;
+    let mut tested: u16 = 0;
+    let mut working: u16 = 0;
     let mut date = first;
     while date <= last {
         if is_working(days, row, base, date) {
-            n += 1;
+            working += 1;
         }
+        tested += 1;
         date += 1;
     }
-    n
+    Tested {
+        tested: tested as u64,
+        working: working as u64,
+    }
 }
 
 // A span under a calendar, its working dates counted; the rows are of `width` dates, from `base` on.
@@ -44,7 +55,8 @@ pub fn span_of(days: &[u8], base: u64, width: u64, calendar: u64, first: u64, la
     ensures { λ r. ⌜ r ≡ spanOf (now (days .entry)) (calendar * width) base first last ⌝ }
 {
     let row = (calendar * width) as usize;
-    let working = count_working(days, row, base, first, last);
+    let found = test_dates(days, row, base, first, last);
+    let working = found.working;
     Span {
         row,
         base,

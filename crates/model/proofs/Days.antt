@@ -31,6 +31,22 @@ module _ (p : ℕ → Bool) (from to : ℕ) where
   unfolding datesBetween
   between-kept d h l e = in-keep p d (datesBetween from to) (in-span from (to + 1 - from) d h (omega arith)) e
 
+-- those up to a date are those of a shorter span
+pub kept-up-to : (p : ℕ → Bool) (from to date : ℕ) → keep (λ d. leb d date) (keep p (datesBetween from to)) ≡ keep p (datesBetween from (min to date))
+unfolding datesBetween
+kept-up-to p from to date =
+    let early : ℕ → Bool = λ d. p d && leb d date in
+    keep-keep p (λ d. leb d date) (datesBetween from to)
+    ∙ rising-same (keep early (datesBetween from to)) (keep p (datesBetween from (min to date)))
+    (keep-rises early from (to + 1 - from)) (keep-rises p from (min to date + 1 - from))
+    (λ d m. let k = kept-between early from to d m in let b = and-both (p d) (leb d date) (k .2) in between-kept p from (min to date) d (k .0) (omega (arith, leb-true d date (b .1))) (b .0))
+    (λ d m. let k = kept-between p from (min to date) d m in between-kept early from to d (k .0) (omega arith) (ap₂ _&&_ (k .2) (le-leb d date (omega arith))))
+
+-- one date rises
+pub alone-rises : (from : ℕ) (l : List ℕ) → Rising l → Rising (orAlone from l)
+alone-rises from [] r j k m h = absurd (omega arith)
+alone-rises from (d ∷ ds) r j k m h = r j k m h
+
 module _ (c : Calendar) (from to : ℕ) where
   -- the working days are the dates of the span that work
   pub working-days : (d : ℕ) → List·Memᴰ d (workingDays c from to) ↔ ((from ≤ d) × (d ≤ to) × (isWorking c d ≡ true))
@@ -43,14 +59,8 @@ module _ (c : Calendar) (from to : ℕ) where
 
   -- those up to a date are the working days of a shorter span
   pub working-up-to : (date : ℕ) → keep (λ d. leb d date) (workingDays c from to) ≡ workingDays c from (min to date)
-  unfolding workingDays datesBetween
-  working-up-to date =
-      let early : ℕ → Bool = λ d. isWorking c d && leb d date in
-      keep-keep (isWorking c) (λ d. leb d date) (datesBetween from to)
-      ∙ rising-same (keep early (datesBetween from to)) (keep (isWorking c) (datesBetween from (min to date)))
-      (keep-rises early from (to + 1 - from)) (keep-rises (isWorking c) from (min to date + 1 - from))
-      (λ d m. let k = kept-between early from to d m in let b = and-both (isWorking c d) (leb d date) (k .2) in between-kept (isWorking c) from (min to date) d (k .0) (omega (arith, leb-true d date (b .1))) (b .0))
-      (λ d m. let k = kept-between (isWorking c) from (min to date) d m in between-kept early from to d (k .0) (omega arith) (ap₂ _&&_ (k .2) (le-leb d date (omega arith))))
+  unfolding workingDays
+  working-up-to date = kept-up-to (isWorking c) from to date
 
   -- ---- the day list: where some date works, these; else the first date alone
   pub day-list-working : (d : ℕ) → from ≤ d → d ≤ to → isWorking c d ≡ true → dayList c from to ≡ workingDays c from to
@@ -110,11 +120,7 @@ module _ (c : Calendar) (from to : ℕ) where
 
   pub day-list-rises : Rising (dayList c from to)
   unfolding dayList
-  day-list-rises = go (workingDays c from to) working-days-rise
-    where
-      go : (l : List ℕ) → Rising l → Rising (orAlone from l)
-      go [] r j k m h = absurd (omega arith)
-      go (d ∷ ds) r j k m h = r j k m h
+  day-list-rises = alone-rises from (workingDays c from to) working-days-rise
 
   -- within the span, but never empty
   pub day-list-within : (d : ℕ) → List·Memᴰ d (dayList c from to) → (from ≤ d) × (d ≤ max from to)

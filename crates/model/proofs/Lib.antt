@@ -16,6 +16,7 @@ pub mod Saturating
 pub mod Amounts
 pub mod Figures
 pub mod Costs
+pub mod Walk
 pub mod Planned
 pub mod Curve
 pub mod EarnedValue

@@ -28,6 +28,7 @@ use Rattle.model.specs.Days.{workingDays, dayList, plannedDays}
 use Rattle.model.specs.Amounts.{on, dated, spreadOver, amounts, saturatedSum}
 use Rattle.model.specs.Costs.{costOf}
 use Rattle.model.specs.Planned.{firstLine, lineOf, budgetBy, budgetOf, daysBy, listedDays, plannedAmounts, isUpTo, plannedOn}
+use Rattle.model.specs.Walk.{countUpTo}
 use Rattle.model.specs.Demand.{firstOf, lastOf}
 use Rattle.lists.proofs.Lists.{keep-none, keep-all, keep-length, keep-fewer, first-at}
 use Rattle.model.proofs.Rising.{rest-rises, least}
@@ -36,10 +37,6 @@ use Rattle.model.proofs.Totals.{total-span, magnitudes-total}
 use Rattle.model.proofs.Saturating.{clamp-same, saturated-shares}
 use Rattle.model.proofs.Amounts.{shares-span, amounts-spread}
 use Rattle.model.proofs.Costs.{cost-budget-fits}
-
--- how many of the days are up to the date
-abbrev pub countUpTo : ℕ → List ℕ → ℕ
-countUpTo date days = length (keep (λ d. leb d date) days)
 
 -- ---- the shares of an amount over rising days
 module _ (date : ℕ) where

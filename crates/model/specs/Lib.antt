@@ -6,6 +6,7 @@ pub mod Tree
 pub mod Outline
 pub mod Costs
 pub mod Planned
+pub mod Walk
 pub mod Earned
 pub mod Demand
 pub mod Forecast

@@ -35,3 +35,10 @@ pub struct Indices {
     pub tcpi: f64,
     pub hasTcpi: bool,
 }
+
+// What document 02's walk over the days of a span counts: its listed days, those of them up to a date, and the dates that it tested.
+pub struct DayWalk {
+    pub listed: u64,
+    pub upTo: u64,
+    pub tested: u64,
+}

@@ -1,3 +1,4 @@
+pub mod Walking
 pub mod Portions
 pub mod Tabling
 pub mod Settling

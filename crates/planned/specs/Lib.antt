@@ -1,3 +1,4 @@
+pub mod Walked
 pub mod Values
 pub mod Tabled
 pub mod Reached

@@ -1,6 +1,6 @@
 // Planned value at a date: what of each activity's budget falls on the days up to it, by a table of the days of all calendars.
 pub mod own;
-pub mod part;
+pub mod walk;
 
 use answers::open::Opened;
 use baseline::listed::LISTED_WIDTH;

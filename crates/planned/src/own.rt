@@ -1,5 +1,5 @@
 // What is planned by a date of each activity's budget, by a table of the days of the calendars: `width` dates a row, from `base` on.
-use crate::part::planned_by;
+use crate::walk::planned_by;
 use baseline::listed::LISTED_WIDTH;
 use money::sums::saturating_add;
 ghost use mathlib.Core.Path.{_≡_};
