@@ -33,7 +33,7 @@ use Rattle.model.proofs.Planned.{leaf-planned, count-working}
 
 -- ---- small books
 
-abbrev counts : ℕ → ℕ → ℕ → DayWalk
+abbrev pub counts : ℕ → ℕ → ℕ → DayWalk
 counts listed upTo tested = record { listed = listed; upTo = upTo; tested = tested }
 
 abbrev week : ℕ → Calendar

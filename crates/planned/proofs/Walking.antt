@@ -13,14 +13,12 @@ use Rattle.model.specs.declared.DayWalk.{DayWalk}
 use Rattle.model.specs.Days.{datesBetween, orAlone}
 use Rattle.model.specs.Walk.{countUpTo}
 use Rattle.model.proofs.Days.{kept-up-to}
+use Rattle.model.proofs.Walk.{counts}
 use Rattle.calendar.specs.Tables.{one}
 use Rattle.laid.specs.declared.days.Tested.{Tested}
 use Rattle.laid.specs.Listed.{inRow, workedBetween, testedBetween}
 use Rattle.laid.proofs.Dates.{dates-between, none-left, parted, most-between}
 use Rattle.planned.specs.Walked.{walkedIn, bothOf, orFirst, Few}
-
-abbrev pub counts : ℕ → ℕ → ℕ → DayWalk
-counts listed upTo tested = record { listed = listed; upTo = upTo; tested = tested }
 
 pub same-counts : {a b c x y z : ℕ} → a ≡ x → b ≡ y → c ≡ z → counts a b c ≡ counts x y z
 same-counts {c = c} {x = x} {y = y} e f g = ap₂ (λ (l u : ℕ). counts l u c) e f ∙ ap (counts x y) g
