@@ -20,11 +20,10 @@ abbrev pub datesBy : Activity → Option BaselineLine → ℕ
 datesBy a none = length (datesBetween (a .earlyStart) (a .earlyFinish))
 datesBy a (some line) = length (datesBetween (line .start) (line .finish))
 
--- document 02's walk over the days of activity i: all its listed days, those up to the date, and the dates tested, whatever the date
+-- of listed days at a date: how many there are, how many are up to the date, and how many dates were tested for them
+abbrev pub countsOf : ℕ → List ℕ → ℕ → DayWalk
+countsOf date days tested = record { listed = length days; upTo = countUpTo date days; tested = tested }
+
+-- document 02's walk over the days of activity i: the dates tested are all of its span, whatever the date
 unfoldable pub walkOf : Book → ℕ → ℕ → DayWalk
-walkOf book date i =
-    record {
-      listed = length (listedDays book i);
-      upTo = countUpTo date (listedDays book i);
-      tested = datesBy (activityAt book i) (lineOf book i);
-    }
+walkOf book date i = countsOf date (listedDays book i) (datesBy (activityAt book i) (lineOf book i))

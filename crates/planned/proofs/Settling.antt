@@ -13,7 +13,7 @@ use Rattle.model.specs.Tree.{parents, indices, isLeaf}
 use Rattle.model.specs.Lookup.{activityAt}
 use Rattle.model.specs.Days.{datesBetween}
 use Rattle.model.specs.Planned.{lineOf, budgetOf, listedDays, plannedAmounts, plannedOn}
-use Rattle.model.specs.Walk.{countUpTo, datesBy, walkOf}
+use Rattle.model.specs.Walk.{datesBy, countsOf, walkOf}
 use Rattle.model.specs.Earned.{noEarned, leafEarned, ownEarned, projectEarned}
 use Rattle.model.proofs.Planned.{listed-rise, listed-some}
 use Rattle.tree.specs.Figures.{unmarkedSum, MarksLeaves}
@@ -30,7 +30,6 @@ use Rattle.planned.specs.Walked.{walkedIn}
 use Rattle.planned.specs.Values.{plannedIn, plannedBy, plannedAt}
 use Rattle.planned.specs.Tabled.{tabled}
 use Rattle.planned.specs.Reached.{AreDays}
-use Rattle.planned.proofs.Walking.{same-counts}
 use Rattle.planned.proofs.Portions.{planned-nought}
 use Rattle.planned.proofs.Tabling.{spans-begin}
 
@@ -70,7 +69,7 @@ module _ {b : Book} {known : Stretch} {listed : List ℕ} {budgets : List ℤ} {
     -- the walk over them is document 02's
     pub one-walked : walkedIn (numberAt listed i * datesOf known) (known .from) days date (firstAt listed i) (lastAt listed i) ≡ walkOf b date i
     unfolding walkedIn walkOf
-    one-walked = same-counts (ap length days-listed) (ap (countUpTo date) days-listed) dates-listed
+    one-walked = ap₂ (countsOf date) days-listed dates-listed
 
     -- and what is planned is planned value
     pub one-planned : plannedAt (known .from) (datesOf known) days date listed budgets i ≡ ownEarned b date i .planned

@@ -11,7 +11,7 @@ use lib.ListN.{length, length-append}
 use Rattle.lists.specs.Lists.{consIf, keep}
 use Rattle.model.specs.declared.DayWalk.{DayWalk}
 use Rattle.model.specs.Days.{datesBetween, orAlone}
-use Rattle.model.specs.Walk.{countUpTo}
+use Rattle.model.specs.Walk.{countsOf}
 use Rattle.model.proofs.Days.{kept-up-to}
 use Rattle.model.proofs.Walk.{counts}
 use Rattle.calendar.specs.Tables.{one}
@@ -20,7 +20,7 @@ use Rattle.laid.specs.Listed.{inRow, workedBetween, testedBetween}
 use Rattle.laid.proofs.Dates.{dates-between, none-left, parted, most-between}
 use Rattle.planned.specs.Walked.{walkedIn, bothOf, orFirst, Few}
 
-pub same-counts : {a b c x y z : ℕ} → a ≡ x → b ≡ y → c ≡ z → counts a b c ≡ counts x y z
+same-counts : {a b c x y z : ℕ} → a ≡ x → b ≡ y → c ≡ z → counts a b c ≡ counts x y z
 same-counts {c = c} {x = x} {y = y} e f g = ap₂ (λ (l u : ℕ). counts l u c) e f ∙ ap (counts x y) g
 
 -- ---- the first date alone, where none works
@@ -46,8 +46,11 @@ module _ (row base : ℕ) (days : List ℕ) (date first last : ℕ) where
   abbrev worked : List ℕ
   worked = workedBetween row base days first last
 
+  abbrev all : ℕ
+  all = length (datesBetween first last)
+
   -- by the working dates
-  walked-by : orFirst date first (counts (length worked) (countUpTo date worked) (length (datesBetween first last))) ≡ walkedIn row base days date first last
+  walked-by : orFirst date first (countsOf date worked all) ≡ walkedIn row base days date first last
   unfolding walkedIn keep
   walked-by = go worked
     where
@@ -55,11 +58,9 @@ module _ (row base : ℕ) (days : List ℕ) (date first last : ℕ) where
       alone true = refl
       alone false = refl
 
-      go : (l : List ℕ)
-          → orFirst date first (counts (length l) (countUpTo date l) (length (datesBetween first last)))
-          ≡ counts (length (orAlone first l)) (countUpTo date (orAlone first l)) (length (datesBetween first last))
-      go [] = ap (λ (k : ℕ). counts 1 k (length (datesBetween first last))) (alone (leb first date))
-      go (d ∷ ds) = sym (some-listed (counts (length (d ∷ ds)) (countUpTo date (d ∷ ds)) (length (datesBetween first last))) date first (omega arith))
+      go : (l : List ℕ) → orFirst date first (countsOf date l all) ≡ countsOf date (orAlone first l) all
+      go [] = ap (λ (k : ℕ). counts 1 k all) (alone (leb first date))
+      go (d ∷ ds) = sym (some-listed (countsOf date (d ∷ ds) all) date first (omega arith))
 
   -- up to the date, and from the date behind that on
   module _ (until : ℕ) (u : until ≡ min last date) where

@@ -6,16 +6,14 @@ use lib.Dec.{eqb, leb}
 use lib.ListN.{length}
 use Rattle.model.specs.declared.DayWalk.{DayWalk}
 use Rattle.model.specs.Days.{datesBetween}
-use Rattle.model.specs.Walk.{countUpTo}
+use Rattle.model.specs.Walk.{countsOf}
 use Rattle.calendar.specs.Tables.{one}
 use Rattle.laid.specs.declared.days.Tested.{Tested}
 use Rattle.laid.specs.Listed.{listedBetween}
 
 -- the listed days of the span, those of them up to the date, and the dates tested
 unfoldable pub walkedIn : ℕ → ℕ → List ℕ → ℕ → ℕ → ℕ → DayWalk
-walkedIn row base days date first last =
-    let listed = listedBetween row base days first last in
-    record { listed = length listed; upTo = countUpTo date listed; tested = length (datesBetween first last) }
+walkedIn row base days date first last = countsOf date (listedBetween row base days first last) (length (datesBetween first last))
 
 -- ---- in two stretches, the second behind the first
 
