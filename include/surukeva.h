@@ -1,6 +1,6 @@
 /* The C interface of Surukeva. A book is a run of bytes; every function may be called with any bytes.
 
-   Each call returns 0 and sets *at to its count of rows, or returns the number of its refusal, from 1 to 10, and sets *at to the
+   Each call returns 0 and sets *at to its count of rows, or returns the number of its refusal, from 1 to 11, and sets *at to the
    place, in bytes from the book's first. Rows go to the front of the `out_len` numbers at `out`, signed numbers in two's complement; the rest
    keeps its numbers, and a refused call leaves all of them as they are. Dates count days from 1 January 1970; an activity is its index.
 
@@ -18,7 +18,7 @@ extern "C" {
 #endif
 
 #define SURUKEVA_VERSION_MAJOR 2
-#define SURUKEVA_VERSION_MINOR 1
+#define SURUKEVA_VERSION_MINOR 2
 
 /* Stack that is enough for every call on every book, as measured with the largest tables (docs/BENCHMARKS.md).
    surukeva_outline goes down the tree by recursion, at most 500 levels: 72,144 bytes, when its larger tables are no longer held. */
@@ -36,7 +36,8 @@ enum surukeva_refusal {
     SURUKEVA_BYTES_LEFT = 7,         /* there are bytes after the last section; at the first of them */
     SURUKEVA_UNKNOWN_ACTIVITY = 8,   /* the asked activity is not in the book; at 0 */
     SURUKEVA_DATE_OUT_OF_RANGE = 9,  /* an asked date is outside the years 2000 to 2099; at 0 */
-    SURUKEVA_TOO_SHORT = 10          /* `out` is shorter than the rows need; at 0 */
+    SURUKEVA_TOO_SHORT = 10,         /* `out` is shorter than the rows need; at 0 */
+    SURUKEVA_SUM_OUT_OF_RANGE = 11   /* a twelve-month sum is outside signed 64 bits; at 0, before 10 */
 };
 
 /* The same in words, by number: const char *const text[] = SURUKEVA_REFUSAL_TEXTS; */
@@ -52,7 +53,8 @@ enum surukeva_refusal {
         "there are bytes after the last section", \
         "the asked activity is not in the book", \
         "an asked date is outside the years 2000 to 2099", \
-        "the lent numbers are fewer than the rows need" \
+        "the lent numbers are fewer than the rows need", \
+        "a twelve-month sum is outside signed 64 bits" \
     }
 
 /* The numbers of a row of each call, and the most rows that it has: WIDTH * MOST numbers are enough for every book. */
@@ -66,6 +68,8 @@ enum surukeva_refusal {
 #define SURUKEVA_SPENDING_MOST 36525
 #define SURUKEVA_SPENDING_BY_MONTH_WIDTH 2
 #define SURUKEVA_SPENDING_BY_MONTH_MOST 1200
+#define SURUKEVA_TWELVE_MONTHS_WIDTH 3
+#define SURUKEVA_TWELVE_MONTHS_MOST 1200
 #define SURUKEVA_EARNED_VALUE_WIDTH 7
 #define SURUKEVA_EARNED_VALUE_MOST 500
 #define SURUKEVA_PROJECT_EARNED_WIDTH SURUKEVA_EARNED_VALUE_WIDTH
@@ -107,6 +111,12 @@ uint64_t surukeva_spending(const uint8_t *book, size_t len, uint64_t from, uint6
 
 /* Two numbers for each month that something is charged in: its first date and the amount. */
 uint64_t surukeva_spending_by_month(const uint8_t *book, size_t len, uint64_t *out, size_t out_len, uint64_t *at);
+
+/* Three numbers for each month from the first that something is charged in to the last: its first date; the amounts of it and of the
+   eleven months before it, added up exactly, a month that nothing is charged in counting 0; and a mark, 1 at the largest sum, the
+   earliest where several are equal, else 0. The amounts are those of surukeva_spending over all dates. 11 where a sum is outside signed
+   64 bits. */
+uint64_t surukeva_twelve_months(const uint8_t *book, size_t len, uint64_t *out, size_t out_len, uint64_t *at);
 
 /* Seven numbers for each activity at the status date `date`: its budget, planned value, earned value, actual and remaining cost; then
    what is spent of the budget: 0 and 0 where the budget is 0, else 1 and the share in hundredths of a percent. */

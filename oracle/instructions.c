@@ -23,6 +23,7 @@ CALL(project_cost, out, lent, &at)
 CALL(actual_by_kind, out, lent, &at)
 CALL(spending, FIRST_DAY, LAST_DAY, out, lent, &at)
 CALL(spending_by_month, out, lent, &at)
+CALL(twelve_months, out, lent, &at)
 CALL(earned_value, date, out, lent, &at)
 CALL(project_earned, date, out, lent, &at)
 CALL(planned_curve, FIRST_DAY, LAST_DAY, out, lent, &at)
@@ -38,8 +39,8 @@ CALL(outline, date, out, lent, &at)
 #define NAMED(name) {#name, name}
 static const struct { const char *name; uint64_t (*call)(uint64_t); } calls[] = {
     NAMED(verdict), NAMED(costs), NAMED(project_cost), NAMED(actual_by_kind), NAMED(spending), NAMED(spending_by_month),
-    NAMED(earned_value), NAMED(project_earned), NAMED(planned_curve), NAMED(performance), NAMED(indices), NAMED(project_indices),
-    NAMED(period_points), NAMED(variances), NAMED(budget), NAMED(funding), NAMED(outline),
+    NAMED(twelve_months), NAMED(earned_value), NAMED(project_earned), NAMED(planned_curve), NAMED(performance), NAMED(indices),
+    NAMED(project_indices), NAMED(period_points), NAMED(variances), NAMED(budget), NAMED(funding), NAMED(outline),
 };
 
 __attribute__((noinline)) uint64_t counted(uint64_t (*call)(uint64_t), uint64_t date) { return call(date); }

@@ -19,16 +19,17 @@ static uint64_t call(int k, const uint8_t *book, size_t len, uint64_t *out, size
     case 2: return surukeva_actual_by_kind(book, len, out, out_len, at);
     case 3: return surukeva_spending(book, len, FIRST, LAST, out, out_len, at);
     case 4: return surukeva_spending_by_month(book, len, out, out_len, at);
-    case 5: return surukeva_earned_value(book, len, LAST, out, out_len, at);
-    case 6: return surukeva_project_earned(book, len, LAST, out, out_len, at);
-    case 7: return surukeva_planned_curve(book, len, FIRST, LAST, out, out_len, at);
-    case 8: return surukeva_performance(book, len, 0, out, out_len, at);
-    case 9: return surukeva_indices(book, len, 0, LAST, out, out_len, at);
-    case 10: return surukeva_project_indices(book, len, LAST, out, out_len, at);
-    case 11: return surukeva_period_points(book, len, out, out_len, at);
-    case 12: return surukeva_variances(book, len, out, out_len, at);
-    case 13: return surukeva_budget(book, len, out, out_len, at);
-    case 14: return surukeva_funding(book, len, out, out_len, at);
+    case 5: return surukeva_twelve_months(book, len, out, out_len, at);
+    case 6: return surukeva_earned_value(book, len, LAST, out, out_len, at);
+    case 7: return surukeva_project_earned(book, len, LAST, out, out_len, at);
+    case 8: return surukeva_planned_curve(book, len, FIRST, LAST, out, out_len, at);
+    case 9: return surukeva_performance(book, len, 0, out, out_len, at);
+    case 10: return surukeva_indices(book, len, 0, LAST, out, out_len, at);
+    case 11: return surukeva_project_indices(book, len, LAST, out, out_len, at);
+    case 12: return surukeva_period_points(book, len, out, out_len, at);
+    case 13: return surukeva_variances(book, len, out, out_len, at);
+    case 14: return surukeva_budget(book, len, out, out_len, at);
+    case 15: return surukeva_funding(book, len, out, out_len, at);
     default: return surukeva_outline(book, len, LAST, out, out_len, at);
     }
 }
@@ -39,6 +40,7 @@ static const struct { const char *name; size_t width, most; } calls[] = {
     {"actual_by_kind", SURUKEVA_ACTUAL_BY_KIND_WIDTH, SURUKEVA_ACTUAL_BY_KIND_MOST},
     {"spending", SURUKEVA_SPENDING_WIDTH, SURUKEVA_SPENDING_MOST},
     {"spending_by_month", SURUKEVA_SPENDING_BY_MONTH_WIDTH, SURUKEVA_SPENDING_BY_MONTH_MOST},
+    {"twelve_months", SURUKEVA_TWELVE_MONTHS_WIDTH, SURUKEVA_TWELVE_MONTHS_MOST},
     {"earned_value", SURUKEVA_EARNED_VALUE_WIDTH, SURUKEVA_EARNED_VALUE_MOST},
     {"project_earned", SURUKEVA_PROJECT_EARNED_WIDTH, SURUKEVA_PROJECT_EARNED_MOST},
     {"planned_curve", SURUKEVA_PLANNED_CURVE_WIDTH, SURUKEVA_PLANNED_CURVE_MOST},

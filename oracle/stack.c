@@ -36,6 +36,7 @@ PLAIN(project_cost)
 PLAIN(actual_by_kind)
 TWO(spending, FIRST_DAY, LAST_DAY)
 PLAIN(spending_by_month)
+PLAIN(twelve_months)
 ONE(earned_value, LAST_DAY)
 ONE(project_earned, LAST_DAY)
 TWO(planned_curve, FIRST_DAY, LAST_DAY)
@@ -78,6 +79,7 @@ int main(void) {
     REPORT(actual_by_kind);
     REPORT(spending);
     REPORT(spending_by_month);
+    REPORT(twelve_months);
     REPORT(earned_value);
     REPORT(project_earned);
     REPORT(planned_curve);

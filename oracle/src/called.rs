@@ -1,15 +1,16 @@
 //! Calls over the trap books and over short made ones, with what they leave in lent memory, for the replay.
 
 use crate::book::{Book, FIRST_DAY, LAST_DAY, decode};
-use crate::calls::{Asked, CALLS, Call};
+use crate::calls::{Asked, CALLS, Call, SUM_OUTSIDE};
 use crate::encode::encode;
 use crate::generate;
 use crate::traps;
 
 /// A longer lent slice is left out.
 const MOST_LENT: usize = 600;
-/// How many books are made beside the trap books, and how long they may be.
+/// How many books are made beside the trap books, how many of them for the twelve-month sums, and how long they may be.
 const MADE: usize = 12;
+const MADE_MONTHS: usize = 6;
 const MOST_BYTES: usize = 700;
 
 /// Number k of a lent slice before the call.
@@ -57,11 +58,12 @@ fn each<const N: usize>(asked: &[[u64; N]]) -> Vec<Vec<u64>> {
     questions
 }
 
-/// The lines of a call on one book: a slice that fits, a longer one, one that is too short by one, and an empty one; a
-/// single slice where the call is refused.
+/// The lines of a call on one book: a slice that fits, a longer one, one that is too short by one, and an empty one. Where
+/// the call is refused, a single slice; for a sum outside 64 bits also an empty one and one of twenty rows.
 fn lines(call: &Call, bytes: &[u8], asked: &[u64]) -> String {
     let mut lengths = match call.rows(bytes, asked) {
         Ok(rows) => vec![rows.len(), rows.len() + 3, rows.len().saturating_sub(1), 0],
+        Err((SUM_OUTSIDE, _)) => vec![0, 3, 60],
         Err(_) => vec![3],
     };
     lengths.retain(|length| *length <= MOST_LENT);
@@ -70,14 +72,18 @@ fn lines(call: &Call, bytes: &[u8], asked: &[u64]) -> String {
     lengths.iter().map(|length| line(call, bytes, asked, *length)).collect()
 }
 
-/// The trap books of a file, then short ones of each quick kind.
+/// The trap books of a file, then short ones of some quick kinds, then short ones for the twelve-month sums.
 fn books(file: &str) -> Vec<Vec<u8>> {
     let stored = traps::books(file).into_iter().map(|(_, bytes)| bytes);
-    let kinds = ["small", "ends", "tree", "calendar", "money"];
-    let made =
+    let kinds = made(&["small", "ends", "tree", "calendar", "money"]).take(MADE);
+    stored.chain(kinds).chain(made(&["months"]).take(MADE_MONTHS)).collect()
+}
+
+/// Short books of those kinds, in turn.
+fn made(kinds: &[&'static str]) -> impl Iterator<Item = Vec<u8>> {
+    let books =
         (1..=60).flat_map(|seed| kinds.iter().filter_map(move |kind| generate::book(kind, seed)));
-    let short = made.map(|book| encode(&book)).filter(|bytes| bytes.len() <= MOST_BYTES);
-    stored.chain(short.take(MADE)).collect()
+    books.map(|book| encode(&book)).filter(|bytes| bytes.len() <= MOST_BYTES)
 }
 
 /// The lines of every call on those books; the verdict, which leaves no rows, has vectors of its own.

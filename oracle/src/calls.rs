@@ -1,5 +1,5 @@
-//! The calls, from a book's bytes to rows in lent memory, answered by the Rust; the order of the outline, which it has
-//! not, is `outline`'s.
+//! The calls, from a book's bytes to rows in lent memory, answered by the Rust; the order of the outline and the
+//! twelve-month sums, which it has not, are `outline`'s and `twelve`'s.
 
 use mkperth_core::Date;
 use mkperth_sched::{
@@ -11,6 +11,9 @@ use mkperth_sched::{
 use crate::book::{FIRST_DAY, LAST_DAY, decode};
 use crate::outline;
 use crate::project::{Stage, date};
+use crate::twelve;
+
+use Rows::{Always, Inside};
 
 /// What a call is asked, beside the book.
 #[derive(Debug, Clone, Copy, PartialEq, Eq)]
@@ -25,7 +28,13 @@ pub struct Call {
     pub name: &'static str,
     pub asked: &'static [Asked],
     pub width: usize,
-    rows: fn(&Stage, &[u64]) -> Vec<u64>,
+    rows: Rows,
+}
+
+/// How rows are made: of every accepted book, or of one whose sums are inside signed 64 bits.
+enum Rows {
+    Always(fn(&Stage, &[u64]) -> Vec<u64>),
+    Inside(fn(&Stage) -> Option<Vec<u64>>),
 }
 
 const NOTHING: &[Asked] = &[];
@@ -40,30 +49,39 @@ pub const EARNED_WIDTH: usize = 7;
 pub const OUTLINE_WIDTH: usize = 2 + EARNED_WIDTH;
 
 /// Every call.
-pub const CALLS: [Call; 17] = [
-    Call { name: "verdict", asked: NOTHING, width: 0, rows: |_, _| Vec::new() },
-    Call { name: "costs", asked: NOTHING, width: 3, rows: costs_rows },
-    Call { name: "project_cost", asked: NOTHING, width: 3, rows: project_cost_row },
-    Call { name: "actual_by_kind", asked: NOTHING, width: 6, rows: kind_rows },
-    Call { name: "spending", asked: DATES, width: 2, rows: spending_rows },
-    Call { name: "earned_value", asked: DATE, width: EARNED_WIDTH, rows: earned_rows },
-    Call { name: "project_earned", asked: DATE, width: EARNED_WIDTH, rows: project_earned_row },
-    Call { name: "planned_curve", asked: DATES, width: 2, rows: curve_rows },
-    Call { name: "performance", asked: ACTIVITY, width: 1, rows: performance_row },
-    Call { name: "indices", asked: ACTIVITY_AND_DATE, width: 9, rows: indices_row },
-    Call { name: "project_indices", asked: DATE, width: 9, rows: project_indices_row },
-    Call { name: "period_points", asked: NOTHING, width: 7, rows: period_rows },
-    Call { name: "variances", asked: NOTHING, width: 5, rows: variance_rows },
-    Call { name: "budget", asked: NOTHING, width: 10, rows: budget_rows },
-    Call { name: "funding", asked: NOTHING, width: 2, rows: funding_row },
-    Call { name: "spending_by_month", asked: NOTHING, width: 2, rows: month_rows },
-    Call { name: "outline", asked: DATE, width: OUTLINE_WIDTH, rows: outline_rows },
+pub const CALLS: [Call; 18] = [
+    Call { name: "verdict", asked: NOTHING, width: 0, rows: Always(|_, _| Vec::new()) },
+    Call { name: "costs", asked: NOTHING, width: 3, rows: Always(costs_rows) },
+    Call { name: "project_cost", asked: NOTHING, width: 3, rows: Always(project_cost_row) },
+    Call { name: "actual_by_kind", asked: NOTHING, width: 6, rows: Always(kind_rows) },
+    Call { name: "spending", asked: DATES, width: 2, rows: Always(spending_rows) },
+    Call { name: "earned_value", asked: DATE, width: EARNED_WIDTH, rows: Always(earned_rows) },
+    Call {
+        name: "project_earned",
+        asked: DATE,
+        width: EARNED_WIDTH,
+        rows: Always(project_earned_row),
+    },
+    Call { name: "planned_curve", asked: DATES, width: 2, rows: Always(curve_rows) },
+    Call { name: "performance", asked: ACTIVITY, width: 1, rows: Always(performance_row) },
+    Call { name: "indices", asked: ACTIVITY_AND_DATE, width: 9, rows: Always(indices_row) },
+    Call { name: "project_indices", asked: DATE, width: 9, rows: Always(project_indices_row) },
+    Call { name: "period_points", asked: NOTHING, width: 7, rows: Always(period_rows) },
+    Call { name: "variances", asked: NOTHING, width: 5, rows: Always(variance_rows) },
+    Call { name: "budget", asked: NOTHING, width: 10, rows: Always(budget_rows) },
+    Call { name: "funding", asked: NOTHING, width: 2, rows: Always(funding_row) },
+    Call { name: "spending_by_month", asked: NOTHING, width: 2, rows: Always(month_rows) },
+    Call { name: "outline", asked: DATE, width: OUTLINE_WIDTH, rows: Always(outline_rows) },
+    Call { name: "twelve_months", asked: NOTHING, width: 3, rows: Inside(twelve_rows) },
 ];
 
 /// The call of that name.
 pub fn named(name: &str) -> Option<&'static Call> {
     CALLS.iter().find(|call| call.name == name)
 }
+
+/// The refusal of a book with a sum outside signed 64 bits, after 9 and before 10.
+pub const SUM_OUTSIDE: u64 = 11;
 
 /// The number a call returns, and its count of rows or the place of the refusal.
 pub type Answer = (u64, u64);
@@ -85,9 +103,12 @@ impl Call {
 
     /// The same over a book that was accepted before.
     pub fn stage_rows(&self, stage: &Stage, asked: &[u64]) -> Result<Vec<u64>, Answer> {
-        match self.refusal(stage, asked) {
-            Some(refusal) => Err((refusal, 0)),
-            None => Ok((self.rows)(stage, asked)),
+        if let Some(refusal) = self.refusal(stage, asked) {
+            return Err((refusal, 0));
+        }
+        match self.rows {
+            Always(rows) => Ok(rows(stage, asked)),
+            Inside(rows) => rows(stage).ok_or((SUM_OUTSIDE, 0)),
         }
     }
 
@@ -258,6 +279,12 @@ fn outline_rows(s: &Stage, asked: &[u64]) -> Vec<u64> {
         [level, index].into_iter().chain(earned(&all[index as usize]))
     };
     outline::order(&s.book).into_iter().flat_map(row).collect()
+}
+
+fn twelve_rows(s: &Stage) -> Option<Vec<u64>> {
+    let row = |row: twelve::Row| [row.first.days() as u64, row.sum as u64, u64::from(row.mark)];
+    let rows = twelve::rows(&spending(&s.project, &s.schedule))?;
+    Some(rows.into_iter().flat_map(row).collect())
 }
 
 fn index_of(name: &str) -> u64 {

@@ -3,16 +3,18 @@
 use crate::book::*;
 use crate::calls::{Asked, Call};
 use crate::encode::{encode, groups};
+use crate::months;
 use crate::random::{Random, Size};
 use crate::trees;
 
 /// The kinds of accepted book that the Rust answers quickly, the smallest first.
-const QUICK: [&str; 11] = [
+const QUICK: [&str; 12] = [
     "small",
     "ends",
     "offset",
     "tree",
     "outline",
+    "months",
     "calendar",
     "money",
     "periods",
@@ -34,11 +36,12 @@ pub fn book(kind: &str, seed: u64) -> Option<Book> {
     let book = match kind {
         "any" => {
             let small = random.one_in(2);
-            let kind = if small { random.pick(&QUICK[..6]) } else { random.pick(&QUICK) };
+            let kind = if small { random.pick(&QUICK[..7]) } else { random.pick(&QUICK) };
             return book(kind, random.number());
         }
         "offset" => offset(&mut random),
         "outline" => outline(&mut random),
+        "months" => months::book(&mut random),
         "full" => full(&mut random),
         "worst" => worst(&mut random),
         "programme" => crate::programme::book(&mut random),

@@ -12,6 +12,7 @@ pub mod growth;
 pub mod leaf;
 #[cfg(feature = "library")]
 pub mod library;
+pub mod months;
 pub mod outline;
 pub mod programme;
 pub mod project;
@@ -22,5 +23,6 @@ pub mod status;
 pub mod statuses;
 pub mod traps;
 pub mod trees;
+pub mod twelve;
 pub mod vectors;
 pub mod verdicts;

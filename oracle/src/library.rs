@@ -215,6 +215,7 @@ book_calls! {
     "surukeva_funding" surukeva_funding "funding" Plain();
     "surukeva_spending_by_month" surukeva_spending_by_month "spending_by_month" Plain();
     "surukeva_outline" surukeva_outline "outline" One(day);
+    "surukeva_twelve_months" surukeva_twelve_months "twelve_months" Plain();
 }
 
 /// The calls that the status is made of.

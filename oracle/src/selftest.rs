@@ -1,12 +1,14 @@
 //! The oracle held against documents 01 and 02 and against itself.
 
+mod months;
+
 use mkperth_core::{EtcTechnique, Price, Resource};
 use mkperth_sched::Earned;
 use mkperth_sched::costs::spread;
 
 use crate::arguments::{FIRST_DATE, LAST_DATE};
 use crate::book::{Activity, Book, Calendar, Expense, LONGEST, decode};
-use crate::calls::{CALLS, Call, MOST_NUMBERS};
+use crate::calls::{CALLS, Call, MOST_NUMBERS, SUM_OUTSIDE};
 use crate::damage::{Damage, damaged};
 use crate::encode::encode;
 use crate::generate;
@@ -65,6 +67,11 @@ pub fn run(books: u64) -> Tally {
     outline_orders(&mut tally);
     outline_texts(&mut tally);
     outline_promises(&mut tally, books);
+    tally.section("twelve months");
+    months::small_figures(&mut tally);
+    months::large_figures(&mut tally);
+    months::sums_by_days(&mut tally, books);
+    months::what_is_made(&mut tally);
     tally.section("written and read back");
     round_trips(&mut tally, books);
     tally.section("damaged copies");
@@ -240,7 +247,7 @@ fn damaged_copies(tally: &mut Tally, books: u64) {
     }
 }
 
-/// Refusals 8 to 10 come in order, rows fit exactly, and the rest of the slice stays.
+/// Refusals 8, 9 and 11 come before 10, rows fit exactly, and the rest of the slice stays.
 fn lent_slices(tally: &mut Tally, books: u64) {
     for seed in 0..books.div_ceil(4) {
         let Some(book) = generate::book("any", seed) else { continue };
@@ -265,7 +272,8 @@ fn slice_of_call(tally: &mut Tally, call: &Call, stage: &Stage, asked: &[u64]) {
     let what = || format!("{} {asked:?}: {answer:?}", call.name);
     let rest = long[needed..].iter().all(|number| *number == 3);
     if answer.0 != 0 {
-        tally.holds(matches!(answer, (8 | 9, 0)) && rest, what);
+        let first = call.lend(&rows, &mut []) == answer;
+        tally.holds(matches!(answer, (8 | 9 | SUM_OUTSIDE, 0)) && rest && first, what);
         return;
     }
     let mut exact = vec![4; needed];

@@ -16,7 +16,7 @@ use Rattle.answers.specs.declared.Reply.the-variants.{Accepted, Refused}
 use Rattle.answers.specs.declared.open.Opening.{Opening}
 use Rattle.answers.specs.Rows.{Rows}
 use Rattle.answers.specs.Opened.{IsAsked}
-use Rattle.answers.specs.Calls.{Condition, isActivity, activityAsked, checked, Met, fitted, lentAfter, Puts, replyNumber, replyPlace, reply, left, Answers, Returns}
+use Rattle.answers.specs.Calls.{Condition, isActivity, activityAsked, checked, Met, fitted, lentAfter, Puts, PutsIf, replyNumber, replyPlace, reply, left, Answers, Returns}
 
 -- refused and not refused
 pub differ : {A : Type 0} → true ≡ false → A
@@ -86,6 +86,19 @@ asked-in-book {i} {cs} {s} w e = rw (← activities-count (w .opens e .plan)) (g
 
 -- ---- the rows
 
+-- where the figures pass their test
+module _ {number : ℕ} {rows : Rows} {out after : List ℕ} {r : Reply} where
+  pub puts-if : {passes : Bool} → passes ≡ true → Puts rows out r after → PutsIf passes number rows out r after
+  puts-if e p = record { answer = rw e (p .answer); lent = p .lent }
+
+  pub if-puts : {passes : Bool} → passes ≡ true → PutsIf passes number rows out r after → Puts rows out r after
+  if-puts e p = record { answer = p .answer ∙ ap (λ (b : Bool). cond b (fitted rows (length out)) (Refused number 0)) e; lent = p .lent }
+
+-- and where they do not
+pub puts-failed : {passes : Bool} {number : ℕ} {rows : Rows} {out : List ℕ} → passes ≡ false → PutsIf passes number rows out (Refused number 0) out
+unfolding lentAfter
+puts-failed e = record { answer = rw e refl; lent = refl }
+
 module _ (rows : Rows) (out : List ℕ) where
   pub too-short : length out < length (numbers rows) → Puts rows out (Refused 10 0) out
   unfolding fitted lentAfter
@@ -119,6 +132,17 @@ module _ (conditions : List Condition) (rows : Book → Rows) (s out : List ℕ)
     unfolding reply
     call-answered e {a} {after} p =
         answered a (rw (w .opens e .accepted .1) (p .answer ∙ sym (w .meets e .passes (fitted (rows (content s)) (length out))))) after (p .lent)
+
+  -- where the rows are tested by a condition, behind those that were asked before
+  pub call-tested :
+      (c : Condition) {o : Opening} → IsAsked conditions s o → o .refused ≡ false → {a : Reply} {after : List ℕ} →
+      PutsIf (c .holds (content s)) (c .number) (rows (content s)) out a after → Answers (conditions ++ (c ∷ [])) rows s out a after
+  unfolding reply checked left
+  call-tested c w e {a} {after} p =
+      let lent = length out in
+      let is : a ≡ reply (conditions ++ (c ∷ [])) rows s lent =
+      rw (w .opens e .accepted .1, checked-last conditions c (content s) (fitted (rows (content s)) lent)) (p .answer ∙ sym (w .meets e .passes _)) in
+      record { answer = is; lent = p .lent ∙ ap (λ (x : Reply). lentAfter x (rows (content s)) out) is }
 
   -- as C has it
   pub returned :

@@ -9,6 +9,7 @@ use Rattle.format.specs.declared.Pos.{Pos}
 use Rattle.format.specs.declared.Pos.the-variants as pos
 use Rattle.format.specs.Book.{Book}
 use Rattle.format.specs.Verdict.{verdict, content}
+use Rattle.model.specs.TwelveMonths.{areWords, spendingMonths}
 use Rattle.rows.specs.Rows.{numbers}
 use Rattle.answers.specs.declared.Reply.{Reply}
 use Rattle.answers.specs.declared.Reply.the-variants.{Accepted, Refused}
@@ -35,6 +36,10 @@ activityAsked i = record { number = 8; holds = isActivity i }
 -- 9: an asked date is within the range
 abbrev pub dateAsked : ℕ → Condition
 dateAsked d = record { number = 9; holds = λ book. isDate d }
+
+-- 11: each twelve-month sum is a number of 64 bits
+abbrev pub sumsAsked : Condition
+sumsAsked = record { number = 11; holds = λ book. areWords (spendingMonths book) }
 
 -- ---- what is answered
 
@@ -64,6 +69,11 @@ lentAfter (Refused e p) rows out = out
 -- r is answered with these rows where `out` is lent, and `after` is left in it
 pub record Puts (rows : Rows) (out : List ℕ) (r : Reply) (after : List ℕ) : Type 0 where
   pub answer : r ≡ fitted rows (length out)
+  pub lent : after ≡ lentAfter r rows out
+
+-- the same where the figures themselves are tested: where they do not pass, the call is refused with a number, before 10
+pub record PutsIf (passes : Bool) (number : ℕ) (rows : Rows) (out : List ℕ) (r : Reply) (after : List ℕ) : Type 0 where
+  pub answer : r ≡ cond passes (fitted rows (length out)) (Refused number 0)
   pub lent : after ≡ lentAfter r rows out
 
 -- the number that is returned: 0 for accepted

@@ -18,6 +18,7 @@ use Rattle.model.specs.Tree.{parents, indices}
 use Rattle.model.specs.Outline.{Line, outline}
 use Rattle.model.specs.Costs.{costs, projectCost, actualByKind, spendingBetween}
 use Rattle.model.specs.Months.{spendingByMonth}
+use Rattle.model.specs.TwelveMonths.{TwelveMonths, twelveMonths}
 use Rattle.model.specs.Planned.{plannedCurveBetween}
 use Rattle.model.specs.Earned.{earnedAt, earnedValue, projectEarned, spentIn, performance}
 use Rattle.model.specs.Periods.{PeriodPoint, periodPoints}
@@ -65,6 +66,18 @@ spendingRows from to book = map pointRow (spendingBetween book from to)
 -- a row for each month that something falls in
 unfoldable pub spendingByMonthRows : Book → Rows
 spendingByMonthRows book = map pointRow (spendingByMonth book)
+
+-- how many numbers a row of twelve months has: `TWELVE_WIDTH` of src/lib.rt
+abbrev pub twelveWidth : ℕ
+twelveWidth = 3
+
+-- the last month's first day, the sum, and 1 at the largest sum
+unfoldable pub twelveRow : TwelveMonths → List ℕ
+twelveRow x = x .first ∷ bits (x .sum) ∷ cond (x .largest) 1 0 ∷ []
+
+-- a row for each month from the first to the last that something falls in
+unfoldable pub twelveMonthsRows : Book → Rows
+twelveMonthsRows book = map twelveRow (twelveMonths book)
 
 -- a row for each point of the planned curve between two dates
 unfoldable pub plannedCurveRows : ℕ → ℕ → Book → Rows

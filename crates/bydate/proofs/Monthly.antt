@@ -20,8 +20,8 @@ use Rattle.laid.specs.Laid.{sumOf}
 use Rattle.bydate.specs.Pointed.{isMarked, sumOn, pointsIn}
 use Rattle.laid.proofs.Dates.{parted}
 use Rattle.bydate.proofs.Writing.{points-next, points-end}
-use Rattle.bydate.specs.Months.{monthEnd, byMonth}
-use Rattle.bydate.proofs.MonthDays.{in-month, same-month, later-month}
+use Rattle.bydate.specs.Months.{byMonth}
+use Rattle.bydate.proofs.MonthDays.{monthEnd, in-month, same-month, later-month}
 use Rattle.bydate.proofs.Grouping.{points-lead}
 
 pub no-months : byMonth [] ≡ []

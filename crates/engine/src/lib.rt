@@ -19,10 +19,11 @@ use progress::project::project_earned_of;
 use progress::rolled::earned_value_of;
 use spending::spending_by_month_of;
 use spending::spending_of;
+use spending::twelve_months_of;
 use variances::variances_of;
 ghost use mathlib.Core.List.{[], _∷_};
-ghost use Rattle.answers.specs.Rows.{costsRows, projectCostRows, actualByKindRows, spendingRows, spendingByMonthRows, earnedValueRows, projectEarnedRows, outlineRows, plannedCurveRows, performanceRows, indicesRows, projectIndicesRows, periodPointsRows, variancesRows, budgetRows, fundingRows};
-ghost use Rattle.answers.specs.Calls.{activityAsked, dateAsked, Answers};
+ghost use Rattle.answers.specs.Rows.{costsRows, projectCostRows, actualByKindRows, spendingRows, spendingByMonthRows, twelveMonthsRows, earnedValueRows, projectEarnedRows, outlineRows, plannedCurveRows, performanceRows, indicesRows, projectIndicesRows, periodPointsRows, variancesRows, budgetRows, fundingRows};
+ghost use Rattle.answers.specs.Calls.{activityAsked, dateAsked, sumsAsked, Answers};
 
 // Each activity's budget, actual and remaining cost.
 pub fn costs(book: &[u8], out: &mut [u64]) -> Reply
@@ -77,6 +78,17 @@ pub fn spending_by_month(book: &[u8], out: &mut [u64]) -> Reply
         return Reply::Refused(opening.number, opening.place);
     }
     spending_by_month_of(book, opening.opened, out)
+}
+
+// The same by twelve months: for each month from the first to the last that has a point, what falls in it and in the eleven before it, exactly; the largest is marked.
+pub fn twelve_months(book: &[u8], out: &mut [u64]) -> Reply
+    ensures { λ r. ⌜ Answers (sumsAsked ∷ []) twelveMonthsRows (now (book .entry)) (now (out .entry)) r (now (out .exit)) ⌝ }
+{
+    let opening = open(book);
+    if opening.refused {
+        return Reply::Refused(opening.number, opening.place);
+    }
+    twelve_months_of(book, opening.opened, out)
 }
 
 // Each activity's figures of earned value at a status date.

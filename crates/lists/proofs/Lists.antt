@@ -38,6 +38,11 @@ module _ {A : Type 0} (p : A → Bool) where
       go true t e ih = (y, List·Memᴰ·head refl, t)
       go false t e ih = let h = ih e in (h .0, List·Memᴰ·tail (h .1), h .2)
 
+  pub any-none : (xs : List A) → ((x : A) → List·Memᴰ x xs → p x ≡ false) → any p xs ≡ false
+  unfolding any
+  any-none [] h = refl
+  any-none (y ∷ ys) h = ap₂ _||_ (h y (List·Memᴰ·head refl)) (any-none ys (λ x m. h x (List·Memᴰ·tail m)))
+
   pub keep-in : (x : A) (xs : List A) → List·Memᴰ x (keep p xs) → List·Memᴰ x xs × (p x ≡ true)
   unfolding keep
   keep-in x [] m = absurd (List·Memᴰ·not-nil m)

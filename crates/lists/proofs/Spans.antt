@@ -1,6 +1,6 @@
 -- Laws of the spans: what they hold, and what is made of each of their numbers. Assumes nothing.
 use Prim.Native.Nat.{ℕ, zero, suc, _+_, _≤_, _<_}
-use mathlib.Core.Path.{_≡_, refl, ap, _∙_}
+use mathlib.Core.Path.{_≡_, refl, sym, ap, _∙_}
 use mathlib.Core.Logic.{⊎-elim}
 use mathlib.Core.List.{List, _∷_, map, List·Memᴰ, List·Memᴰ·head, List·Memᴰ·tail, List·Memᴰ·not-nil, List·Memᴰ·cases-cons}
 use native.Mathlib.Omega.{arith}
@@ -30,7 +30,7 @@ in-span a (suc n) d h k = go (ℕ-discrete d a) (in-span (suc a) n d)
     go (no e) ih = List·Memᴰ·tail (ih (omega arith) (omega arith))
 
 -- made of each number of a span
-made-from : {A : Type 0} (f : ℕ → A) (d : A) (a n i : ℕ) → i < n → getD (map f (span a n)) i d ≡ f (a + i)
+pub made-from : {A : Type 0} (f : ℕ → A) (d : A) (a n i : ℕ) → i < n → getD (map f (span a n)) i d ≡ f (a + i)
 unfolding span
 made-from f d a zero i h = absurd (omega arith)
 made-from f d a (suc n) zero h = let e : a ≡ a + 0 = omega arith in ap f e
@@ -50,6 +50,10 @@ from-at a (suc n) (suc i) h = omega (arith, from-at (suc a) n i (omega arith))
 
 pub span-at : (n i : ℕ) → i < n → getD (span 0 n) i 0 ≡ i
 span-at n i h = from-at 0 n i h ∙ zero-add i
+
+-- a span is one from 0, moved
+pub span-from : (a n : ℕ) → map (λ (k : ℕ). a + k) (span 0 n) ≡ span a n
+span-from a n = ext-getD 0 (map (λ (k : ℕ). a + k) (span 0 n)) (span a n) (made-length (λ k. a + k) n ∙ sym (span-length a n)) (λ k h. let l : k < n = omega (arith, made-length (λ (k : ℕ). a + k) n) in made-at (λ k. a + k) 0 n k l ∙ sym (from-at a n k l))
 
 -- the elements of a list, by their places
 pub elements : {A : Type 0} (xs : List A) (d : A) → map (λ (k : ℕ). getD xs k d) (span 0 (length xs)) ≡ xs

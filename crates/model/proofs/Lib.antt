@@ -29,3 +29,5 @@ pub mod Forecast
 pub mod BudgetCases
 pub mod Pinned
 pub mod Charges
+pub mod TwelveCases
+pub mod TwelveMonths

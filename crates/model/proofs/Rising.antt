@@ -7,7 +7,7 @@ use mathlib.Core.List.{List, [], _∷_, List·Memᴰ, List·Memᴰ·head, List·
 use native.Mathlib.Omega.{arith}
 use lib.ListN.{length, getD}
 use Rattle.lists.specs.Lists.{span, consIf, keep}
-use Rattle.lists.proofs.Lists.{first-at}
+use Rattle.lists.proofs.Lists.{first-at, keep-all}
 use Rattle.lists.proofs.Distinct.{Distinct}
 use Rattle.format.specs.InRange.{Rising}
 
@@ -33,6 +33,9 @@ keep-rises p a (suc n) j k m l = go (p a) (keep-rises p (suc a) n) j k m l
     go true r zero (suc k) m l = keep-from p (suc a) n k (omega arith)
     go true r (suc j) zero m l = absurd (omega arith)
     go true r (suc j) (suc k) m l = r j k (omega arith) (omega arith)
+
+pub span-rises : (a n : ℕ) → Rising (span a n)
+span-rises a n = rw (← keep-all (λ d. true) (span a n) (λ d m. refl)) (keep-rises (λ d. true) a n)
 
 -- ---- a rising list is known by what it holds
 module _ (x : ℕ) (xs : List ℕ) (r : Rising (x ∷ xs)) where

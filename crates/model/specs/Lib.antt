@@ -14,3 +14,4 @@ pub mod Variances
 pub mod Budgets
 pub mod Periods
 pub mod Months
+pub mod TwelveMonths

@@ -11,10 +11,10 @@ use borrow.Author.Tests.{lt-ltb, le-ltb}
 use Rattle.integer.specs.Linear.{plus, minus}
 use Rattle.money.specs.Words.{bits, ofBits}
 
-low : (n : ℕ) → n < 2 ^ 63 → ofBits n ≡ pos n
+pub low : (n : ℕ) → n < 2 ^ 63 → ofBits n ≡ pos n
 low n h = ap (λ (b : Bool). cond b (pos n) (negsuc (2 ^ 64 - suc n))) (lt-ltb n (2 ^ 63) h)
 
-high : (n : ℕ) → 2 ^ 63 ≤ n → ofBits n ≡ negsuc (2 ^ 64 - suc n)
+pub high : (n : ℕ) → 2 ^ 63 ≤ n → ofBits n ≡ negsuc (2 ^ 64 - suc n)
 high n h = ap (λ (b : Bool). cond b (pos n) (negsuc (2 ^ 64 - suc n))) (le-ltb n (2 ^ 63) h)
 
 pub there-and-back : (z : ℤ) → SFits w64 z → ofBits (bits z) ≡ z

@@ -1,15 +1,17 @@
 -- What no law fixes: the definitions on small numbers and at the ends of 64 bits, by computation. Assumes nothing.
 use mathlib.Core.Path.{_≡_, refl}
-use mathlib.Core.Bool.{true, false}
+use mathlib.Core.Bool.{Bool, true, false}
 use mathlib.Core.List.{List, [], _∷_, map}
 use mathlib.Core.Option.{Option, none, some}
 use Prim.Native.Nat.{ℕ}
 use lib.IntN.{ℤ, pos, negsuc}
 use Rattle.money.specs.declared.costs.Cost.{Cost}
+use Rattle.money.specs.declared.exact.Exact.{Exact}
 use Rattle.money.specs.Words.{bits, ofBits}
 use Rattle.money.specs.Scale.{inRange, scaledBy, pricedAt, spentOf, differ}
 use Rattle.money.specs.Shares.{signum, shareOf, sharesFrom, spread}
 use Rattle.money.specs.Costs.{completionOf, varianceOf, sumOf}
+use Rattle.money.specs.Exact.{valueOf, isWord}
 
 abbrev max : ℤ
 max = pos 0x7fff_ffff_ffff_ffff
@@ -118,3 +120,23 @@ words =
 
 pub word-cases : (map (λ (w : ℤ × ℕ). bits (w .0)) words ≡ map (λ (w : ℤ × ℕ). w .1) words) × (map (λ (w : ℤ × ℕ). ofBits (w .1)) words ≡ map (λ (w : ℤ × ℕ). w .0) words)
 word-cases = (refl, refl)
+
+-- ---- numbers of two words
+
+-- the two words, the number, whether it is one of 64 bits
+abbrev wides : List (Exact × ℤ × Bool)
+wides =
+    (record { high = pos 0; low = 5 }, pos 5, true)
+    ∷ (record { high = pos 0; low = 0x7fff_ffff_ffff_ffff }, max, true)
+    ∷ (record { high = pos 0; low = 0x8000_0000_0000_0000 }, pos 0x8000_0000_0000_0000, false)
+    ∷ (record { high = pos 1; low = 5 }, pos 0x1_0000_0000_0000_0005, false)
+    ∷ (record { high = negsuc 0; low = 0xffff_ffff_ffff_ffff }, negsuc 0, true)
+    ∷ (record { high = negsuc 0; low = 0x8000_0000_0000_0000 }, min, true)
+    ∷ (record { high = negsuc 0; low = 0x7fff_ffff_ffff_ffff }, negsuc 0x8000_0000_0000_0000, false)
+    ∷ (record { high = negsuc 1; low = 0xffff_ffff_ffff_ffff }, negsuc 0x1_0000_0000_0000_0000, false)
+    ∷ []
+
+pub wide-cases : (map (λ (w : Exact × ℤ × Bool). valueOf (w .0)) wides ≡ map (λ (w : Exact × ℤ × Bool). w .1) wides)
+    × (map (λ (w : Exact × ℤ × Bool). isWord (w .1)) wides ≡ map (λ (w : Exact × ℤ × Bool). w .2) wides)
+unfolding isWord
+wide-cases = (refl, refl)

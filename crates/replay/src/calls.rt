@@ -20,17 +20,18 @@ fn plain_call(place: u64, book: &[u8], out: &mut [u64]) -> Reply {
         4 => engine::period_points(book, out),
         5 => engine::variances(book, out),
         6 => engine::budget(book, out),
-        _ => engine::funding(book, out),
+        7 => engine::funding(book, out),
+        _ => engine::twelve_months(book, out),
     }
 }
 
 // The same by one that is asked with an activity or a date.
 fn call_of_one(place: u64, book: &[u8], value: u64, out: &mut [u64]) -> Reply {
     match place {
-        8 => engine::earned_value(book, value, out),
-        9 => engine::project_earned(book, value, out),
-        10 => engine::performance(book, value, out),
-        11 => engine::project_indices(book, value, out),
+        9 => engine::earned_value(book, value, out),
+        10 => engine::project_earned(book, value, out),
+        11 => engine::performance(book, value, out),
+        12 => engine::project_indices(book, value, out),
         _ => engine::outline(book, value, out),
     }
 }
@@ -38,19 +39,19 @@ fn call_of_one(place: u64, book: &[u8], value: u64, out: &mut [u64]) -> Reply {
 // The same by one that is asked with two dates, or with an activity and a date.
 fn call_of_two(place: u64, book: &[u8], first: u64, second: u64, out: &mut [u64]) -> Reply {
     match place {
-        13 => engine::spending(book, first, second, out),
-        14 => engine::planned_curve(book, first, second, out),
-        15 => engine::indices(book, first, second, out),
+        14 => engine::spending(book, first, second, out),
+        15 => engine::planned_curve(book, first, second, out),
+        16 => engine::indices(book, first, second, out),
         _ => Reply::Refused(NO_CALL, 0),
     }
 }
 
 // What the call at that place of the list answers, asked with as many of the two values as it takes.
 fn call(place: u64, book: &[u8], first: u64, second: u64, out: &mut [u64]) -> Reply {
-    if place < 8 {
+    if place < 9 {
         return plain_call(place, book, out);
     }
-    if place < 13 {
+    if place < 14 {
         return call_of_one(place, book, first, out);
     }
     call_of_two(place, book, first, second, out)
@@ -93,7 +94,7 @@ pub fn replay(line: &[u8], from: usize) -> Outcome {
     }
     let place = names::place(
         &line[from..end],
-        b"costs project_cost actual_by_kind spending_by_month period_points variances budget funding earned_value project_earned performance project_indices outline spending planned_curve indices ",
+        b"costs project_cost actual_by_kind spending_by_month period_points variances budget funding twelve_months earned_value project_earned performance project_indices outline spending planned_curve indices ",
     );
     vectors::untold(holds(line, place, end + 1))
 }

@@ -1,7 +1,7 @@
 -- What is asked of an accepted book: its tables are as laying and writing need them.
 use Prim.Native.Nat.{ℕ, _+_, _*_, _≤_, _<_, min, max}
 use mathlib.Core.Path.{_≡_, sym, ap, ap₂, _∙_, subst}
-use mathlib.Core.List.{List, [], map, flatMap}
+use mathlib.Core.List.{List, [], flatMap}
 use native.Mathlib.Nat.{mul-le-mul-right}
 use native.Mathlib.Omega.{arith}
 use lib.IntN.{ℤ, pos}
@@ -25,22 +25,20 @@ use Rattle.spans.specs.declared.Stretch.{Stretch}
 use Rattle.activities.specs.Schedule.{scheduleOf, firstIn, lastIn}
 use Rattle.spans.specs.Stretches.{DatedSpans, CoversSpans}
 use Rattle.answers.specs.declared.Reply.{Reply}
-use Rattle.answers.specs.Calls.{Puts}
-use Rattle.answers.specs.Rows.{pointRow}
 use Rattle.prices.specs.Rates.{rateRow, ratesOf}
 use Rattle.laid.specs.Laid.{Laid}
 use Rattle.bydate.specs.Pointed.{pointsIn, Reaches}
 use Rattle.bydate.proofs.Arrays.{front-long}
 use Rattle.bydate.proofs.Pointing.{points-laid, points-narrow}
-use Rattle.bydate.proofs.Writing.{puts-same}
 use Rattle.bydate.specs.Sizes.{datesOf, IsEmpty}
 use Rattle.spending.specs.declared.asked.Asked.{Asked}
 use Rattle.spending.specs.declared.charged.Frame.{Frame}
 use Rattle.spending.specs.Asking.{IsAsked, IsCharged}
 use Rattle.spending.specs.Budgeted.{chargeCount, HasRoom}
-use Rattle.spending.specs.Grained.{grained}
+use Rattle.spending.specs.Grained.{Writes}
 use Rattle.spending.specs.Chained.{Chained}
 use Rattle.spending.specs.Charged.{AreTables, Charged, AreCharged, AreSpans, IsScheduled}
+use Rattle.spending.proofs.Written.{writes-same}
 use Rattle.spending.proofs.Charging.{charged-are}
 use Rattle.spending.proofs.Spanning.{spans-are, spans-listed, budget-within}
 
@@ -152,9 +150,9 @@ module _ {s : List ℕ} {asked : Asked} {schedule : List ℕ} (a : IsAsked s ask
 
     -- what is laid onto it makes the rows
     pub asked-rows :
-        {out end : List ℕ} {r : Reply} → Puts (map pointRow (grained (asked .grain) (pointsIn (asked .known .from) after (asked .from) (asked .to)))) out r end →
-        Puts (map pointRow (grained (asked .grain) (spendingBetween (content s) (asked .from) (asked .to)))) out r end
+        {out end : List ℕ} {r : Reply} → Writes (asked .grain) (pointsIn (asked .known .from) after (asked .from) (asked .to)) out r end →
+        Writes (asked .grain) (spendingBetween (content s) (asked .from) (asked .to)) out r end
     unfolding spendingBetween
     asked-rows p =
         let laid = subst (λ (t : List ℕ). Laid (asked .known .from) (budgetByDay (content s)) t after) (w .empty) l in
-        puts-same (ap (grained (asked .grain)) (points-laid (length before) laid asked-reach)) p
+        writes-same (asked .grain) (points-laid (length before) laid asked-reach) p

@@ -1,8 +1,8 @@
 -- All the spending falls on the dates of a book, so that what is asked between the first and the last of them is all.
 use Prim.Native.Nat.{ℕ, _≤_}
-use mathlib.Core.Path.{_≡_, refl, ap, ap₂, _∙_}
+use mathlib.Core.Path.{_≡_, ap, ap₂, _∙_}
 use mathlib.Core.Bool.{true, _&&_}
-use mathlib.Core.List.{[], Memᴰ·map}
+use mathlib.Core.List.{Memᴰ·map}
 use native.Mathlib.Omega.{arith}
 use borrow.Author.Tests.{le-leb}
 use Rattle.format.specs.Book.{Book}
@@ -16,17 +16,11 @@ use Rattle.model.specs.Months.{spendingByMonth}
 use Rattle.lists.proofs.Lists.{keep-all}
 use Rattle.model.proofs.Days.{day-list-within}
 use Rattle.model.proofs.Points.{all-dates, spending-within}
-use Rattle.spending.specs.declared.asked.Grain.{Grain}
-use Rattle.spending.specs.declared.asked.Grain.the-variants.{Day, Month}
+use Rattle.answers.specs.Rows.{spendingByMonthRows}
 use Rattle.bydate.specs.Months.{byMonth}
-use Rattle.bydate.proofs.Monthly.{no-months}
-use Rattle.spending.specs.Grained.{grained}
+use Rattle.spending.specs.declared.asked.Grain.the-variants.{Month}
+use Rattle.spending.specs.Grained.{rowsBy}
 use Rattle.spending.proofs.Within.{budget-day}
-
-pub grained-none : (grain : Grain) → grained grain [] ≡ []
-unfolding grained
-grained-none Day = refl
-grained-none Month = no-months
 
 module _ (book : Book) (range : InRange book) where
   charged-date : (d : ℕ) → isCharged (budgetByDay book) d ≡ true → (10957 ≤ d) × (d ≤ 47481)
@@ -50,6 +44,6 @@ module _ (book : Book) (range : InRange book) where
       ap₂ _&&_ (le-leb 10957 (x .day) (w .0)) (le-leb (x .day) 47481 (w .1)))
 
   -- by month it is the spending by month
-  pub spending-months : grained Month (spendingBetween book 10957 47481) ≡ spendingByMonth book
-  unfolding grained byMonth spendingByMonth
-  spending-months = ap (grained Month) spending-dates
+  pub spending-months : rowsBy Month (spendingBetween book 10957 47481) ≡ spendingByMonthRows book
+  unfolding rowsBy byMonth spendingByMonth spendingByMonthRows
+  spending-months = ap (rowsBy Month) spending-dates

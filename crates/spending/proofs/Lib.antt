@@ -6,5 +6,6 @@ pub mod Walking
 pub mod Within
 pub mod Spanning
 pub mod Charges
+pub mod Written
 pub mod Asking
 pub mod ByMonth

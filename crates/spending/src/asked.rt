@@ -6,13 +6,14 @@ ghost use mathlib.Core.Path.{_≡_};
 ghost use Prim.Native.Nat.{_+_, _≤_};
 ghost use Rattle.spending.specs.Asking.{frameOf};
 
-// A row for each date, or one for each month.
+// A row for each date, one for each month, or one for each twelve months.
 pub enum Grain {
     Day,
     Month,
+    TwelveMonths,
 }
 
-// By day or by month, between two dates of the stretch that the planned days of the book take; and the frame of its tables.
+// By day, by month or by twelve months, between two dates of the stretch that the planned days of the book take; and the frame of its tables.
 pub struct Asked {
     pub opened: Opened,
     pub grain: Grain,

@@ -10,18 +10,15 @@ use prices::rates::RATE_WIDTH;
 use prices::rates::fill_rates;
 ghost use Prim.Native.Nat.{_*_};
 ghost use mathlib.Core.Bool.{true};
-ghost use mathlib.Core.List.{map};
 ghost use mathlib.Core.Path.{_≡_};
 ghost use lib.ListN.{length};
 ghost use Rattle.format.specs.Verdict.{content};
 ghost use Rattle.book.specs.Plan.{IsPlanOf};
 ghost use Rattle.model.specs.Costs.{spendingBetween};
-ghost use Rattle.answers.specs.Calls.{Puts};
-ghost use Rattle.answers.specs.Rows.{pointRow};
 ghost use Rattle.spending.specs.Asking.{IsAsked};
 ghost use Rattle.spending.specs.Budgeted.{chargeCount, HasRoom, AreWithin, AreFew};
 ghost use Rattle.spending.specs.Charged.{AreTables};
-ghost use Rattle.spending.specs.Grained.{grained};
+ghost use Rattle.spending.specs.Grained.{Writes};
 
 // The assignments, and behind them the expenses.
 fn fill_charges(book: &[u8], opened: Opened, links: &mut [u64], units: &mut [i64])
@@ -49,7 +46,7 @@ fn charged_rows(
 ) -> Reply
     requires { ⌜ IsAsked (now book) asked (now schedule) ⌝ }
     requires { ⌜ HasRoom (asked .opened .plan) (now rates) (now links) (now units) ⌝ }
-    ensures { λ r. ⌜ Puts (map pointRow (grained (asked .grain) (spendingBetween (content (now (book .entry))) (asked .from) (asked .to)))) (now (out .entry)) r (now (out .exit)) ⌝ }
+    ensures { λ r. ⌜ Writes (asked .grain) (spendingBetween (content (now (book .entry))) (asked .from) (asked .to)) (now (out .entry)) r (now (out .exit)) ⌝ }
 {
     fill_rates(book, asked.opened.plan.resources, rates);
     fill_charges(book, asked.opened, links, units);
@@ -78,7 +75,7 @@ pub fn are_few(charges: u64, resources: u64) -> bool
 fn fewest_rows(book: &[u8], asked: Asked, schedule: &[u64], out: &mut [u64]) -> Reply
     requires { ⌜ IsAsked (now book) asked (now schedule) ⌝ }
     requires { ⌜ AreWithin 48 6 (chargeCount (asked .opened .plan)) (asked .opened .plan .resources .count) ⌝ }
-    ensures { λ r. ⌜ Puts (map pointRow (grained (asked .grain) (spendingBetween (content (now (book .entry))) (asked .from) (asked .to)))) (now (out .entry)) r (now (out .exit)) ⌝ }
+    ensures { λ r. ⌜ Writes (asked .grain) (spendingBetween (content (now (book .entry))) (asked .from) (asked .to)) (now (out .entry)) r (now (out .exit)) ⌝ }
 {
     let mut rates = [0u64; 492];
     let mut links = [0u64; 96];
@@ -100,7 +97,7 @@ fn fewest_rows(book: &[u8], asked: Asked, schedule: &[u64], out: &mut [u64]) -> 
 fn some_rows(book: &[u8], asked: Asked, schedule: &[u64], out: &mut [u64]) -> Reply
     requires { ⌜ IsAsked (now book) asked (now schedule) ⌝ }
     requires { ⌜ AreWithin 256 24 (chargeCount (asked .opened .plan)) (asked .opened .plan .resources .count) ⌝ }
-    ensures { λ r. ⌜ Puts (map pointRow (grained (asked .grain) (spendingBetween (content (now (book .entry))) (asked .from) (asked .to)))) (now (out .entry)) r (now (out .exit)) ⌝ }
+    ensures { λ r. ⌜ Writes (asked .grain) (spendingBetween (content (now (book .entry))) (asked .from) (asked .to)) (now (out .entry)) r (now (out .exit)) ⌝ }
 {
     let mut rates = [0u64; 1968];
     let mut links = [0u64; 512];
@@ -122,7 +119,7 @@ fn some_rows(book: &[u8], asked: Asked, schedule: &[u64], out: &mut [u64]) -> Re
 pub fn few_rows(book: &[u8], asked: Asked, schedule: &[u64], out: &mut [u64]) -> Reply
     requires { ⌜ IsAsked (now book) asked (now schedule) ⌝ }
     requires { ⌜ AreFew (chargeCount (asked .opened .plan)) (asked .opened .plan .resources .count) ⌝ }
-    ensures { λ r. ⌜ Puts (map pointRow (grained (asked .grain) (spendingBetween (content (now (book .entry))) (asked .from) (asked .to)))) (now (out .entry)) r (now (out .exit)) ⌝ }
+    ensures { λ r. ⌜ Writes (asked .grain) (spendingBetween (content (now (book .entry))) (asked .from) (asked .to)) (now (out .entry)) r (now (out .exit)) ⌝ }
 {
     let charges = asked.opened.plan.assignments.count + asked.opened.plan.expenses.count;
     if are_within(48, 6, charges, asked.opened.plan.resources.count) {
@@ -134,7 +131,7 @@ pub fn few_rows(book: &[u8], asked: Asked, schedule: &[u64], out: &mut [u64]) ->
 // The rows, for as many as a book may have.
 pub fn many_rows(book: &[u8], asked: Asked, schedule: &[u64], out: &mut [u64]) -> Reply
     requires { ⌜ IsAsked (now book) asked (now schedule) ⌝ }
-    ensures { λ r. ⌜ Puts (map pointRow (grained (asked .grain) (spendingBetween (content (now (book .entry))) (asked .from) (asked .to)))) (now (out .entry)) r (now (out .exit)) ⌝ }
+    ensures { λ r. ⌜ Writes (asked .grain) (spendingBetween (content (now (book .entry))) (asked .from) (asked .to)) (now (out .entry)) r (now (out .exit)) ⌝ }
 {
     let mut rates = [0u64; 16400];
     let mut links = [0u64; 6000];

@@ -3,31 +3,38 @@ use crate::asked::Asked;
 use crate::asked::Grain;
 use crate::charged::lay_activities;
 use answers::Reply;
-use bydate::months::write_months;
+use bydate::bymonth::write_months;
 use bydate::points::write_points;
 use bydate::sizes::fits_small;
 use calendar::all::fill_all;
-ghost use mathlib.Core.List.{map};
+use twelve::Reach;
+use twelve::writing::write_twelve_months;
 ghost use Prim.Native.Nat.{_*_, _≤_};
 ghost use lib.ListN.{length};
 ghost use Rattle.format.specs.Verdict.{content};
 ghost use Rattle.model.specs.Costs.{spendingBetween};
-ghost use Rattle.answers.specs.Calls.{Puts};
-ghost use Rattle.answers.specs.Rows.{pointRow};
 ghost use Rattle.bydate.specs.Pointed.{pointsIn, Reaches};
 ghost use Rattle.bydate.specs.Sizes.{datesOf, FitsSmall, IsEmpty};
 ghost use Rattle.spending.specs.Asking.{IsAsked, IsCharged};
-ghost use Rattle.spending.specs.Grained.{grained};
+ghost use Rattle.spending.specs.Grained.{Writes};
 
 // The rows of the points of a table between the dates that are asked.
 fn write_rows(asked: Asked, table: &[u64], out: &mut [u64]) -> Reply
-    requires { ⌜ Reaches (asked .known .from) (now table) (asked .from) (asked .to) ⌝ }
-    ensures { λ r. ⌜ Puts (map pointRow (grained (asked .grain) (pointsIn (asked .known .from) (now (table .entry)) (asked .from) (asked .to)))) (now (out .entry)) r (now (out .exit)) ⌝ }
+    requires { ⌜ Reaches (asked .known .from) (now table) (asked .from) (asked .to) × (10957 ≤ asked .from) ⌝ }
+    ensures { λ r. ⌜ Writes (asked .grain) (pointsIn (asked .known .from) (now (table .entry)) (asked .from) (asked .to)) (now (out .entry)) r (now (out .exit)) ⌝ }
 {
     let grain = asked.grain;
     match grain {
         Grain::Day => write_points(asked.known.from, asked.from, asked.to, table, out),
         Grain::Month => write_months(asked.known.from, asked.from, asked.to, table, out),
+        Grain::TwelveMonths => {
+            let reach = Reach {
+                base: asked.known.from,
+                from: asked.from,
+                to: asked.to,
+            };
+            write_twelve_months(reach, table, out)
+        }
     }
 }
 
@@ -48,7 +55,7 @@ fn rows_in(
     requires { ⌜ IsCharged (now book) asked (now rates) (now links) (now units) (now heads) ⌝ }
     requires { ⌜ asked .opened .plan .calendars .count * datesOf (asked .known) ≤ length (now days) ⌝ }
     requires { ⌜ IsEmpty (datesOf (asked .known)) (now table) ⌝ }
-    ensures { λ r. ⌜ Puts (map pointRow (grained (asked .grain) (spendingBetween (content (now (book .entry))) (asked .from) (asked .to)))) (now (out .entry)) r (now (out .exit)) ⌝ }
+    ensures { λ r. ⌜ Writes (asked .grain) (spendingBetween (content (now (book .entry))) (asked .from) (asked .to)) (now (out .entry)) r (now (out .exit)) ⌝ }
 {
     fill_all(
         book,
@@ -84,7 +91,7 @@ fn short_rows(
     requires { ⌜ IsAsked (now book) asked (now schedule) ⌝ }
     requires { ⌜ IsCharged (now book) asked (now rates) (now links) (now units) (now heads) ⌝ }
     requires { ⌜ datesOf (asked .known) ≤ 256 ⌝ }
-    ensures { λ r. ⌜ Puts (map pointRow (grained (asked .grain) (spendingBetween (content (now (book .entry))) (asked .from) (asked .to)))) (now (out .entry)) r (now (out .exit)) ⌝ }
+    ensures { λ r. ⌜ Writes (asked .grain) (spendingBetween (content (now (book .entry))) (asked .from) (asked .to)) (now (out .entry)) r (now (out .exit)) ⌝ }
 {
     let mut days = [0u8; 4096];
     let mut table = [0u64; 512];
@@ -116,7 +123,7 @@ fn small_rows(
     requires { ⌜ IsAsked (now book) asked (now schedule) ⌝ }
     requires { ⌜ IsCharged (now book) asked (now rates) (now links) (now units) (now heads) ⌝ }
     requires { ⌜ FitsSmall (asked .opened .plan .calendars .count) (asked .known) ⌝ }
-    ensures { λ r. ⌜ Puts (map pointRow (grained (asked .grain) (spendingBetween (content (now (book .entry))) (asked .from) (asked .to)))) (now (out .entry)) r (now (out .exit)) ⌝ }
+    ensures { λ r. ⌜ Writes (asked .grain) (spendingBetween (content (now (book .entry))) (asked .from) (asked .to)) (now (out .entry)) r (now (out .exit)) ⌝ }
 {
     let mut days = [0u8; 8192];
     let mut table = [0u64; 4096];
@@ -148,7 +155,7 @@ fn full_table(
 ) -> Reply
     requires { ⌜ IsAsked (now book) asked (now schedule) ⌝ }
     requires { ⌜ IsCharged (now book) asked (now rates) (now links) (now units) (now heads) ⌝ }
-    ensures { λ r. ⌜ Puts (map pointRow (grained (asked .grain) (spendingBetween (content (now (book .entry))) (asked .from) (asked .to)))) (now (out .entry)) r (now (out .exit)) ⌝ }
+    ensures { λ r. ⌜ Writes (asked .grain) (spendingBetween (content (now (book .entry))) (asked .from) (asked .to)) (now (out .entry)) r (now (out .exit)) ⌝ }
 {
     let mut table = [0u64; 73050];
     rows_in(
@@ -178,7 +185,7 @@ fn full_rows(
 ) -> Reply
     requires { ⌜ IsAsked (now book) asked (now schedule) ⌝ }
     requires { ⌜ IsCharged (now book) asked (now rates) (now links) (now units) (now heads) ⌝ }
-    ensures { λ r. ⌜ Puts (map pointRow (grained (asked .grain) (spendingBetween (content (now (book .entry))) (asked .from) (asked .to)))) (now (out .entry)) r (now (out .exit)) ⌝ }
+    ensures { λ r. ⌜ Writes (asked .grain) (spendingBetween (content (now (book .entry))) (asked .from) (asked .to)) (now (out .entry)) r (now (out .exit)) ⌝ }
 {
     let mut days = [0u8; 584400];
     full_table(
@@ -207,7 +214,7 @@ pub fn dated_rows(
 ) -> Reply
     requires { ⌜ IsAsked (now book) asked (now schedule) ⌝ }
     requires { ⌜ IsCharged (now book) asked (now rates) (now links) (now units) (now heads) ⌝ }
-    ensures { λ r. ⌜ Puts (map pointRow (grained (asked .grain) (spendingBetween (content (now (book .entry))) (asked .from) (asked .to)))) (now (out .entry)) r (now (out .exit)) ⌝ }
+    ensures { λ r. ⌜ Writes (asked .grain) (spendingBetween (content (now (book .entry))) (asked .from) (asked .to)) (now (out .entry)) r (now (out .exit)) ⌝ }
 {
     if asked.known.to < asked.known.from + 256 {
         return short_rows(book, asked, schedule, rates, links, units, heads, out);

@@ -1,4 +1,4 @@
-// The spending: what is charged to the budgets, summed by date or by month.
+// The spending: what is charged to the budgets, summed by date, by month or by twelve months.
 pub mod asked;
 pub mod budgets;
 pub mod chains;
@@ -23,17 +23,16 @@ use spans::Stretch;
 use spans::stretches::earlier;
 use spans::stretches::later;
 use spans::stretches::stretch_of;
-ghost use mathlib.Core.List.{map};
 ghost use mathlib.Core.Path.{_≡_};
 ghost use Prim.Native.Nat.{_*_};
 ghost use lib.ListN.{length};
 ghost use Rattle.format.specs.Verdict.{content};
 ghost use Rattle.model.specs.Costs.{spendingBetween};
 ghost use Rattle.activities.specs.Schedule.{scheduleOf};
-ghost use Rattle.answers.specs.Calls.{Puts};
+ghost use Rattle.answers.specs.Calls.{sumsAsked, Puts, PutsIf};
 ghost use Rattle.answers.specs.Opened.{IsOpened};
-ghost use Rattle.answers.specs.Rows.{pointRow, spendingRows, spendingByMonthRows};
-ghost use Rattle.spending.specs.Grained.{grained};
+ghost use Rattle.answers.specs.Rows.{spendingRows, spendingByMonthRows, twelveMonthsRows};
+ghost use Rattle.spending.specs.Grained.{Writes};
 
 // The rows between two dates, from the schedule.
 fn rows_by(
@@ -46,7 +45,7 @@ fn rows_by(
 ) -> Reply
     requires { ⌜ IsOpened (now book) opened ⌝ }
     requires { ⌜ now schedule ≡ scheduleOf (content (now book)) ⌝ }
-    ensures { λ r. ⌜ Puts (map pointRow (grained grain (spendingBetween (content (now (book .entry))) (between .from) (between .to)))) (now (out .entry)) r (now (out .exit)) ⌝ }
+    ensures { λ r. ⌜ Writes grain (spendingBetween (content (now (book .entry))) (between .from) (between .to)) (now (out .entry)) r (now (out .exit)) ⌝ }
 {
     let known = stretch_of(
         schedule,
@@ -84,7 +83,7 @@ fn scheduled_rows(
 ) -> Reply
     requires { ⌜ IsOpened (now book) opened ⌝ }
     requires { ⌜ length (now schedule) ≡ opened .plan .activities .count * 13 ⌝ }
-    ensures { λ r. ⌜ Puts (map pointRow (grained grain (spendingBetween (content (now (book .entry))) (between .from) (between .to)))) (now (out .entry)) r (now (out .exit)) ⌝ }
+    ensures { λ r. ⌜ Writes grain (spendingBetween (content (now (book .entry))) (between .from) (between .to)) (now (out .entry)) r (now (out .exit)) ⌝ }
 {
     let date = opened.date;
     fill_schedule(book, date, opened.plan, schedule);
@@ -94,7 +93,7 @@ fn scheduled_rows(
 // The rows between two dates; none without activities.
 fn rows_of(book: &[u8], opened: Opened, grain: Grain, between: Stretch, out: &mut [u64]) -> Reply
     requires { ⌜ IsOpened (now book) opened ⌝ }
-    ensures { λ r. ⌜ Puts (map pointRow (grained grain (spendingBetween (content (now (book .entry))) (between .from) (between .to)))) (now (out .entry)) r (now (out .exit)) ⌝ }
+    ensures { λ r. ⌜ Writes grain (spendingBetween (content (now (book .entry))) (between .from) (between .to)) (now (out .entry)) r (now (out .exit)) ⌝ }
 {
     if opened.plan.activities.count == 0 {
         return Reply::Accepted(0);
@@ -126,4 +125,16 @@ pub fn spending_by_month_of(book: &[u8], opened: Opened, out: &mut [u64]) -> Rep
         to: 47481,
     };
     rows_of(book, opened, Grain::Month, all, out)
+}
+
+// All of it by twelve months: for each month from the first to the last that has a point, what falls in it and in the eleven before it.
+pub fn twelve_months_of(book: &[u8], opened: Opened, out: &mut [u64]) -> Reply
+    requires { ⌜ IsOpened (now book) opened ⌝ }
+    ensures { λ r. ⌜ PutsIf (sumsAsked .holds (content (now (book .entry)))) 11 (twelveMonthsRows (content (now (book .entry)))) (now (out .entry)) r (now (out .exit)) ⌝ }
+{
+    let all = Stretch {
+        from: 10957,
+        to: 47481,
+    };
+    rows_of(book, opened, Grain::TwelveMonths, all, out)
 }

@@ -2,8 +2,8 @@
 ghost use mathlib.Core.List.{[], _∷_};
 ghost use mathlib.Core.Path.{_≡_};
 ghost use Rattle.format.specs.Verdict.{verdict, answerOf, answerNumber, answerPlace};
-ghost use Rattle.answers.specs.Rows.{costsRows, projectCostRows, actualByKindRows, spendingRows, spendingByMonthRows, earnedValueRows, projectEarnedRows, outlineRows, plannedCurveRows, performanceRows, indicesRows, projectIndicesRows, periodPointsRows, variancesRows, budgetRows, fundingRows};
-ghost use Rattle.answers.specs.Calls.{activityAsked, dateAsked, Returns};
+ghost use Rattle.answers.specs.Rows.{costsRows, projectCostRows, actualByKindRows, spendingRows, spendingByMonthRows, twelveMonthsRows, earnedValueRows, projectEarnedRows, outlineRows, plannedCurveRows, performanceRows, indicesRows, projectIndicesRows, periodPointsRows, variancesRows, budgetRows, fundingRows};
+ghost use Rattle.answers.specs.Calls.{activityAsked, dateAsked, sumsAsked, Returns};
 use answers::give;
 use format::Answer;
 
@@ -73,6 +73,15 @@ pub extern "C" fn surukeva_spending_by_month(book: &[u8], out: &mut [u64], at: &
     ensures { λ r. ⌜ Returns [] spendingByMonthRows (now (book .entry)) (now (out .entry)) r (now (at .exit)) (now (out .exit)) ⌝ }
 {
     let answer = engine::spending_by_month(book, out);
+    give(answer, at)
+}
+
+// The spending by twelve months.
+#[no_mangle]
+pub extern "C" fn surukeva_twelve_months(book: &[u8], out: &mut [u64], at: &mut u64) -> u64
+    ensures { λ r. ⌜ Returns (sumsAsked ∷ []) twelveMonthsRows (now (book .entry)) (now (out .entry)) r (now (at .exit)) (now (out .exit)) ⌝ }
+{
+    let answer = engine::twelve_months(book, out);
     give(answer, at)
 }
 

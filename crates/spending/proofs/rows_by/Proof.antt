@@ -1,15 +1,13 @@
 -- `rows_by` meets its contract: the dates that are asked are narrowed to the stretch of the planned days.
-use mathlib.Core.Path.{_≡_, ap, _∙_}
+use mathlib.Core.Path.{_≡_}
 use native.Mathlib.Omega.{arith}
 use Rattle.format.specs.Verdict.{content}
 use Rattle.book.proofs.Plan.{assignments-most, expenses-most}
 use Rattle.model.specs.Costs.{spendingBetween}
 use Rattle.model.specs.declared.Way.the-variants.{Planned}
 use Rattle.activities.proofs.Scheduling.{schedule-long, schedule-spans}
-use Rattle.bydate.proofs.Writing.{nothing-points, puts-same}
-use Rattle.spending.specs.Grained.{grained}
 use Rattle.spending.specs.Asking.{IsAsked}
-use Rattle.spending.proofs.ByMonth.{grained-none}
+use Rattle.spending.proofs.Written.{writes-same, writes-none}
 use Rattle.spending.proofs.Asking.{planned-dated, planned-covers, spending-narrow, spending-none}
 use borrow.Author.Needs.{needs}
 use Rattle.spending.proofs.rows_by.Statement.{statement}
@@ -33,10 +31,8 @@ returns : tie.Need-returns
 returns c =
     let t = c .before .before .before .before .before in
     let s = t .before .before .before .before in
-    nothing-points _ _
-    (ap (grained (s .args .grain))
+    writes-none (s .args .grain) _
     (spending-none (s .pre .0 .plan) (s .pre .1) (planned-covers (s .args .schedule .now) (t .stretch-of .ensures)) (s .args .between .from) (s .args .between .to) (c .before .before .before .later .ensures) (c .before .before .earlier .ensures) (c .if1 .taken))
-    ∙ grained-none (s .args .grain))
 
 add-charges : tie.Need-add-charges
 add-charges c = let plan = c .before .before .before .before .before .before .before .before .before .before .pre .0 .plan in omega (arith, assignments-most plan, expenses-most plan)
@@ -70,7 +66,7 @@ same-length : tie.Need-same-length
 same-length c = search needs
 
 returns-2 : tie.Need-returns-2
-returns-2 c = let t = c .before .before .before .before .before .before .before in puts-same (ap (grained (t .before .before .before .before .before .before .before .before .before .args .grain)) (narrow t)) (c .before .before .few-rows .ensures)
+returns-2 c = let t = c .before .before .before .before .before .before .before in writes-same (t .before .before .before .before .before .before .before .before .before .args .grain) (narrow t) (c .before .before .few-rows .ensures)
 
 many-rows-requires : tie.Need-many-rows-requires
 many-rows-requires c κs = asked-is (c .before .before .before .before)
@@ -79,7 +75,7 @@ same-length-2 : tie.Need-same-length-2
 same-length-2 c = search needs
 
 returns-3 : tie.Need-returns-3
-returns-3 c = let t = c .before .before .before .before .before .before .before in puts-same (ap (grained (t .before .before .before .before .before .before .before .before .before .args .grain)) (narrow t)) (c .before .before .many-rows .ensures)
+returns-3 c = let t = c .before .before .before .before .before .before .before in writes-same (t .before .before .before .before .before .before .before .before .before .args .grain) (narrow t) (c .before .before .many-rows .ensures)
 
 pub rows-by-spec : {M : Type 1} → statement M
 rows-by-spec =

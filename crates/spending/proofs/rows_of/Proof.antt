@@ -1,14 +1,12 @@
 -- `rows_of` meets its contract: nothing without activities; else the schedule is lent as far as the book has them.
 use Prim.Native.Nat.{ℕ}
-use mathlib.Core.Path.{sym, ap, _∙_}
+use mathlib.Core.Path.{sym, _∙_}
 use native.Mathlib.Omega.{arith}
 use Rattle.format.specs.Verdict.{content}
 use Rattle.book.proofs.Plan.{activities-count, activities-most}
 use Rattle.answers.proofs.Nothing.{no-spending}
 use Rattle.bydate.proofs.Arrays.{front-long}
-use Rattle.bydate.proofs.Writing.{nothing-points}
-use Rattle.spending.specs.Grained.{grained}
-use Rattle.spending.proofs.ByMonth.{grained-none}
+use Rattle.spending.proofs.Written.{writes-none}
 use borrow.Author.Needs.{needs}
 use Rattle.spending.proofs.rows_of.Statement.{statement}
 use Rattle.spending.proofs.rows_of.Tie as tie
@@ -17,8 +15,7 @@ returns : tie.Need-returns
 returns c =
     let s = c .before .before .before .before in
     let a = s .args in
-    nothing-points _ _
-    (ap (grained (a .grain)) (no-spending (content (a .book .now)) (activities-count (s .pre .plan) ∙ c .if1 .taken) (a .between .from) (a .between .to)) ∙ grained-none (a .grain))
+    writes-none (a .grain) _ (no-spending (content (a .book .now)) (activities-count (s .pre .plan) ∙ c .if1 .taken) (a .between .from) (a .between .to))
 
 mul-n : tie.Need-mul-n
 mul-n c = omega (arith, activities-most (c .before .before .before .before .pre .plan))

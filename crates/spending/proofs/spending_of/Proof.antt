@@ -1,7 +1,9 @@
 -- `spending_of` meets its contract: the points by day.
+use mathlib.Core.Path.{refl}
 use borrow.Author.Needs.{needs}
 use Rattle.answers.specs.Rows.{spendingRows}
-use Rattle.spending.specs.Grained.{grained}
+use Rattle.answers.proofs.Replies.{if-puts}
+use Rattle.spending.specs.Grained.{rowsBy, areHeld}
 use Rattle.spending.proofs.spending_of.Statement.{statement}
 use Rattle.spending.proofs.spending_of.Tie as tie
 
@@ -12,8 +14,8 @@ same-length : tie.Need-same-length
 same-length c = search needs
 
 returns : tie.Need-returns
-unfolding spendingRows grained
-returns c = c .before .before .rows-of .ensures
+unfolding spendingRows rowsBy areHeld
+returns c = if-puts refl (c .before .before .rows-of .ensures)
 
 pub spending-of-spec : {M : Type 1} → statement M
 spending-of-spec = tie.close (tie.spec rows-of-requires same-length returns)

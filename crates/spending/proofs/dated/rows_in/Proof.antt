@@ -34,7 +34,7 @@ write-rows-requires : tie.Need-write-rows-requires
 write-rows-requires c κs =
     let u = c .before .before .before .before in
     let s = start (filled u) .pre in
-    asked-reach (s .0) (s .1 .1 .1) (laid u)
+    (asked-reach (s .0) (s .1 .1 .1) (laid u), omega (arith, s .0 .covers .least, s .0 .begins))
 
 returns : tie.Need-returns
 returns c =

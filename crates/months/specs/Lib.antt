@@ -1,0 +1,2 @@
+pub mod Months
+pub mod Table
