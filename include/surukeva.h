@@ -3,6 +3,8 @@
    Each call returns 0 and sets *at to its count of rows, or returns the number of its refusal, from 1 to 11, and sets *at to the
    place, in bytes from the book's first. Rows go to the front of the `out_len` numbers at `out`, signed numbers in two's complement; the rest
    keeps its numbers, and a refused call leaves all of them as they are. Dates count days from 1 January 1970; an activity is its index.
+   What a day's units cost, what is spent of a budget, and every sum but those of surukeva_twelve_months stay within signed 64 bits: the
+   largest number of these stands for all above it, the smallest for all below.
 
    Memory. `book` has `len` bytes, `out` has `out_len` numbers, and `at` one; where a length is 0 its pointer may be NULL, and nothing
    is read or written through it. `out` and `at` must not overlap each other or the book. A call keeps nothing: it takes no memory but
@@ -18,7 +20,7 @@ extern "C" {
 #endif
 
 #define SURUKEVA_VERSION_MAJOR 2
-#define SURUKEVA_VERSION_MINOR 2
+#define SURUKEVA_VERSION_MINOR 3
 
 /* Stack that is enough for every call on every book, as measured with the largest tables (docs/BENCHMARKS.md).
    surukeva_outline goes down the tree by recursion, at most 500 levels: 72,144 bytes, when its larger tables are no longer held. */

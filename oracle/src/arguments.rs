@@ -1,5 +1,7 @@
 //! Arguments of the leaf functions, made so that saturation, ties and limits are met often.
 
+use std::sync::LazyLock;
+
 use mkperth_sched::Cost;
 
 use crate::leaf;
@@ -8,6 +10,16 @@ use crate::random::{Random, Size};
 /// The first and the last day of the years −9999 to 9999.
 pub const FIRST_DATE: i64 = -4_371_587;
 pub const LAST_DATE: i64 = 2_932_896;
+
+/// Units × price where the result is 2^63, and beside it by a hundredth and by one.
+pub const EDGES: [i128; 8] =
+    [END, END + 1, END + 99, END + 100, END + 101, END - 1, END - 100, END - 101];
+const END: i128 = 100 << 63;
+
+/// Some divisors of each, all so large that the other factor is inside 64 bits.
+static DIVISORS: LazyLock<[Vec<i128>; 8]> = LazyLock::new(|| {
+    EDGES.map(|edge| (101..=20_000).filter(|divisor| edge % divisor == 0).collect())
+});
 
 impl Random {
     pub fn any_amount(&mut self) -> i64 {
@@ -43,30 +55,53 @@ impl Random {
         Cost { budget: self.any_amount(), actual, remaining }
     }
 
-    /// Two factors, often with a product over `divisor` at an end of 64 bits.
-    pub fn factors(&mut self, divisor: i128) -> (i64, i64) {
+    /// Units and a price, often with a result at an end of 64 bits.
+    pub fn units_and_price(&mut self) -> (i64, i64) {
+        if self.one_in(4) {
+            return self.edge_factors();
+        }
         let a = self.any_amount();
         let end = self.pick(&[i64::MAX, i64::MIN]);
         if a == 0 || self.one_in(2) {
             return (a, self.any_amount());
         }
-        let b = i128::from(end) * divisor / i128::from(a) + i128::from(self.signed_within(-2, 2));
+        let b = i128::from(end) * 100 / i128::from(a) + i128::from(self.signed_within(-2, 2));
         let b = i64::try_from(b).unwrap_or_else(|_| self.any_amount());
         if self.one_in(2) { (b, a) } else { (a, b) }
+    }
+
+    /// Two factors of one of the edges, mostly of opposite signs.
+    pub fn edge_factors(&mut self) -> (i64, i64) {
+        let k = self.below(EDGES.len() as u64) as usize;
+        let divisor = self.pick(&DIVISORS[k]);
+        let (small, large) = (divisor as i64, (EDGES[k] / divisor) as i64);
+        let (a, b) = if self.one_in(2) { (small, large) } else { (large, small) };
+        let (below, above) = (self.pick(&[(-a, b), (a, -b)]), self.pick(&[(a, b), (-a, -b)]));
+        if self.one_in(4) { above } else { below }
     }
 
     /// Actual and budget, often with a quotient at an end of 64 bits, or without a budget.
     pub fn actual_and_budget(&mut self) -> (i64, i64) {
         let (a, b) = (self.any_amount(), self.any_amount());
         let small = self.signed_within(-1_000, 1_000);
-        let end = self.pick(&[i64::MAX, i64::MIN]);
-        let product = i128::from(end) * i128::from(small) / 10_000;
-        match (self.below(6), i64::try_from(product)) {
-            (0, Ok(actual)) => (actual.saturating_add(self.signed_within(-2, 2)), small),
-            (1, _) => (a, small),
-            (2, _) => (a, 0),
+        match self.below(6) {
+            0 | 1 => self.edge_share(),
+            2 => (a, small),
+            3 => (a, 0),
             _ => (a, b),
         }
+    }
+
+    /// Actual and budget with a quotient at an end of 64 bits or beside it: the budget is at most 10,000. Multiples of 625
+    /// have a quotient of −2^63 without a rest.
+    fn edge_share(&mut self) -> (i64, i64) {
+        let (whole, any) = (625 * self.signed_within(1, 16), self.signed_within(1, 10_000));
+        let budget = self.pick(&[whole, any, 10_000 - any % 20]) * self.pick(&[1, -1]);
+        let end = self.pick(&[i64::MAX, i64::MIN, i64::MIN]);
+        let quotient = i128::from(end) + i128::from(self.signed_within(-1, 1));
+        let product = quotient * i128::from(budget);
+        let actual = product / 10_000 + product.signum() * i128::from(self.below(2));
+        (actual.clamp(i64::MIN.into(), i64::MAX.into()) as i64, budget)
     }
 
     /// An amount, a count of days, and a place up to it, often where the shares change.

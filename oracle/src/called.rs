@@ -8,9 +8,11 @@ use crate::traps;
 
 /// A longer lent slice is left out.
 const MOST_LENT: usize = 600;
-/// How many books are made beside the trap books, how many of them for the twelve-month sums, and how long they may be.
+/// How many books are made beside the trap books, for the twelve-month sums and for results below 64 bits, and how long
+/// they may be.
 const MADE: usize = 12;
 const MADE_MONTHS: usize = 6;
+const MADE_CREDITS: usize = 4;
 const MOST_BYTES: usize = 700;
 
 /// Number k of a lent slice before the call.
@@ -72,11 +74,12 @@ fn lines(call: &Call, bytes: &[u8], asked: &[u64]) -> String {
     lengths.iter().map(|length| line(call, bytes, asked, *length)).collect()
 }
 
-/// The trap books of a file, then short ones of some quick kinds, then short ones for the twelve-month sums.
+/// The trap books of a file, then short ones of some quick kinds, for the twelve-month sums, and for results below 64 bits.
 fn books(file: &str) -> Vec<Vec<u8>> {
     let stored = traps::books(file).into_iter().map(|(_, bytes)| bytes);
     let kinds = made(&["small", "ends", "tree", "calendar", "money"]).take(MADE);
-    stored.chain(kinds).chain(made(&["months"]).take(MADE_MONTHS)).collect()
+    let (months, credits) = (made(&["months"]), made(&["credits"]));
+    stored.chain(kinds).chain(months.take(MADE_MONTHS)).chain(credits.take(MADE_CREDITS)).collect()
 }
 
 /// Short books of those kinds, in turn.

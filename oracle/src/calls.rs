@@ -150,10 +150,10 @@ fn cost(c: &Cost) -> [u64; 3] {
     [c.budget, c.actual, c.remaining].map(|v| v as u64)
 }
 
-/// Actual × 10,000 / budget toward zero; outside 64 bits the greatest number, none for budget 0.
+/// Actual × 10,000 / budget toward zero; outside 64 bits the end on its side, none for budget 0.
 pub fn spent(actual: i64, budget: i64) -> Option<i64> {
     let share = (i128::from(actual) * 10_000).checked_div(i128::from(budget))?;
-    Some(i64::try_from(share).unwrap_or(i64::MAX))
+    Some(share.clamp(i64::MIN.into(), i64::MAX.into()) as i64)
 }
 
 fn earned(e: &Earned) -> [u64; EARNED_WIDTH] {

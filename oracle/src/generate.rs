@@ -2,19 +2,21 @@
 
 use crate::book::*;
 use crate::calls::{Asked, Call};
+use crate::credits;
 use crate::encode::{encode, groups};
 use crate::months;
 use crate::random::{Random, Size};
 use crate::trees;
 
 /// The kinds of accepted book that the Rust answers quickly, the smallest first.
-const QUICK: [&str; 12] = [
+const QUICK: [&str; 13] = [
     "small",
     "ends",
     "offset",
     "tree",
     "outline",
     "months",
+    "credits",
     "calendar",
     "money",
     "periods",
@@ -36,12 +38,13 @@ pub fn book(kind: &str, seed: u64) -> Option<Book> {
     let book = match kind {
         "any" => {
             let small = random.one_in(2);
-            let kind = if small { random.pick(&QUICK[..7]) } else { random.pick(&QUICK) };
+            let kind = if small { random.pick(&QUICK[..8]) } else { random.pick(&QUICK) };
             return book(kind, random.number());
         }
         "offset" => offset(&mut random),
         "outline" => outline(&mut random),
         "months" => months::book(&mut random),
+        "credits" => with_credits(&mut random),
         "full" => full(&mut random),
         "worst" => worst(&mut random),
         "programme" => crate::programme::book(&mut random),
@@ -100,6 +103,15 @@ fn outline(random: &mut Random) -> Book {
     let mut book = Maker { random: Random::new(random.number()), shape }.book();
     let parents = trees::parents(activities, random);
     book.activities.iter_mut().zip(parents).for_each(|(activity, parent)| activity.parent = parent);
+    book
+}
+
+/// A small book with activities, and with the resources and assignments of `credits`.
+fn with_credits(random: &mut Random) -> Book {
+    let small = small_shape(random);
+    let shape = Shape { activities: small.activities + 2, ..small };
+    let mut book = Maker { random: Random::new(random.number()), shape }.book();
+    credits::put(&mut book, random);
     book
 }
 

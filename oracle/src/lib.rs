@@ -5,6 +5,7 @@ pub mod arguments;
 pub mod book;
 pub mod called;
 pub mod calls;
+pub mod credits;
 pub mod damage;
 pub mod encode;
 pub mod generate;

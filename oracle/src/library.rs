@@ -95,9 +95,12 @@ leaves! {
     "parts_saturating_add" parts_saturating_add(a: i64, b: i64) -> i64;
         Random::amount_pair, |(a, b)| a.saturating_add(b), |(a, b)| parts_saturating_add(a, b);
     "parts_priced" parts_priced(units: i64, price: i64) -> i64;
-        |r| r.factors(100), |(u, p)| rust::priced(u, p), |(u, p)| parts_priced(u, p);
+        Random::units_and_price, |(u, p)| rust::priced(u, p), |(u, p)| parts_priced(u, p);
     "parts_spent" parts_spent(actual: i64, budget: i64) -> i64;
         Random::actual_and_budget, |(a, b)| rust::spent(a, b).unwrap_or(NONE), |(a, b)| parts_spent(a, b);
+    "parts_has_spent" parts_has_spent(actual: i64, budget: i64) -> u64;
+        Random::actual_and_budget,
+        |(a, b)| i64::from(rust::spent(a, b).is_some()), |(a, b)| parts_has_spent(a, b) as i64;
     "parts_share" parts_share(amount: i64, n: u64, k: u64) -> i64;
         |r| { let (a, n, k) = r.shares(); (a, n, k.min(n - 1)) },
         |(a, n, k)| rust::share(a, n, k), |(a, n, k)| parts_share(a, n, k);

@@ -36,9 +36,9 @@ fn damaged_copy(damage: Damage, random: &mut Random) -> Option<Vec<u8>> {
     }
 }
 
-/// A made book and its bytes; of `whole` such books one is damaged, and one has a few bytes changed.
-pub fn drawn(whole: u64, random: &mut Random) -> (Book, Vec<u8>) {
-    let book = generate::book("any", random.number()).unwrap_or_default();
+/// A made book of a kind and its bytes; of `whole` such books one is damaged, and one has a few bytes changed.
+pub fn drawn(kind: &str, whole: u64, random: &mut Random) -> (Book, Vec<u8>) {
+    let book = generate::book(kind, random.number()).unwrap_or_default();
     let damage = random.pick(&Damage::ALL);
     let bytes = match (random.below(whole), damaged(&book, damage, random)) {
         (0, Some((bytes, _))) => bytes,

@@ -27,7 +27,7 @@ pub fn compare(program: &str, text: Text, seed: u64, count: u64, file: &str) -> 
     }
     let mut random = Random::new(seed);
     for k in 0..count {
-        let (_, book) = sample::drawn(8, &mut random);
+        let (_, book) = sample::drawn("any", 8, &mut random);
         outcome.add(program, text, &format!("made book {k}"), &book);
     }
     outcome

@@ -24,7 +24,7 @@ pub const LEAVES: [Leaf; 24] = [
         format!("{a} {b} = {}", a.saturating_sub(b))
     }),
     ("priced", |r| {
-        let (units, price) = r.factors(100);
+        let (units, price) = r.units_and_price();
         format!("{units} {price} = {}", leaf::priced(units, price))
     }),
     ("spent", |r| {

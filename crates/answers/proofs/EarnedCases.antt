@@ -1,11 +1,12 @@
--- Rows of earned value and of the outline on small books, by computation: what is spent is there where the row's own budget is not 0, and what hangs on a circle has no
--- line.
-use Prim.Native.Nat.{ℕ, _-_, _^_}
+-- Rows of earned value and of the outline on small books, by computation: what is spent is there where the row's own budget is not 0, what hangs on a circle has no
+-- line, and a credit below 64 bits is their smallest number.
+use Prim.Native.Nat.{ℕ, suc, _-_, _^_}
 use mathlib.Core.Path.{_≡_}
 use mathlib.Core.List.{List, [], _∷_}
 use Rattle.money.specs.Scale.{inRange, scaledBy}
 use Rattle.format.specs.Book.{Calendar}
 use Rattle.model.proofs.SpentCases.{freeRepair, spentZero, totalCancels, noLeaf, empty, rows-figured, totals-figured}
+use Rattle.model.proofs.CreditCases.{overflow, signs, overflow-earned, spent-earned}
 use Rattle.model.proofs.OutlineCases.{outlineCircle, outlineFigures, circleLeaf, books-outlined, figures-outlined}
 use Rattle.rows.specs.Rows.{optional}
 use Rattle.answers.specs.Rows.{earnedRow, earnedValueRows, projectEarnedRows, outlineRow, outlineRows}
@@ -53,6 +54,18 @@ module _ (calendar : Calendar) where
       × (projectEarnedRows 47481 (empty calendar) ≡ zeros ∷ [])
   unfolding projectEarnedRows earnedRow optional scaledBy inRange
   totals-spent = let f = totals-figured calendar in (rw (f .0), rw (f .1), rw (f .2), rw (f .3), rw (f .4))
+
+  -- `credit-overflow`: −2^63 planned and spent, −9 × 10^15 earned; `spent-signs`: a share below the range, and one above it
+  pub rows-credited :
+      (earnedValueRows 47481 (overflow calendar) ≡ (2 ^ 63 ∷ 2 ^ 63 ∷ (2 ^ 64 - 9000000000000000) ∷ 2 ^ 63 ∷ 0 ∷ 1 ∷ 10000 ∷ []) ∷ [])
+      × (earnedValueRows 47481 (signs calendar)
+      ≡ (1 ∷ 1 ∷ 0 ∷ suc (2 ^ 63) ∷ 0 ∷ 1 ∷ 2 ^ 63 ∷ [])
+      ∷ ((2 ^ 64 - 1) ∷ (2 ^ 64 - 1) ∷ 0 ∷ (2 ^ 63 - 1) ∷ 0 ∷ 1 ∷ 2 ^ 63 ∷ [])
+      ∷ ((2 ^ 64 - 1) ∷ (2 ^ 64 - 1) ∷ 0 ∷ suc (2 ^ 63) ∷ 0 ∷ 1 ∷ (2 ^ 63 - 1) ∷ [])
+      ∷ (1 ∷ 1 ∷ 0 ∷ (2 ^ 63 - 1) ∷ 0 ∷ 1 ∷ (2 ^ 63 - 1) ∷ [])
+      ∷ [])
+  unfolding earnedValueRows earnedRow optional scaledBy inRange
+  rows-credited = (rw (overflow-earned calendar), rw (spent-earned calendar .1))
 
   -- 7 under a top beside a circle; a parent's own charge is not in its row; nothing where all is on a circle
   pub rows-outlined :

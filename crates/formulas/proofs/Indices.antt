@@ -1,13 +1,13 @@
 -- CPI, SPI and TCPI are the floats nearest to the quotients of EIA-748 and PMI. Assumes nothing.
 -- For amounts up to 2 ^ 53 they are nearest to the exact quotient. For all numbers of 64 bits each amount is first rounded to its nearest float.
-use mathlib.Core.Path.{_≡_, refl, ap}
+use mathlib.Core.Path.{_≡_}
 use mathlib.Core.Logic.{_≢_}
-use Prim.Native.Nat.{_-_, _^_, min}
+use Prim.Native.Nat.{_-_, _^_}
 use native.Mathlib.Omega.{arith}
 use lib.IntN.{ℤ, pos, negsuc, _-ℤ_}
 use mir.Syntax.{w64}
 use mir.Val.{SFits}
-use Rattle.integer.specs.Clamp.{most}
+use Rattle.integer.specs.Clamp.{clamp-same}
 use Rattle.floats.specs.Rounding.{nearestOf}
 use Rattle.model.specs.declared.Earned.{Earned}
 use Rattle.model.specs.Forecast.{less, cpi, spi, toEarn, tcpi}
@@ -20,12 +20,8 @@ pub small-fits : (z : ℤ) → Small z → SFits w64 z
 small-fits (pos n) h = record { sfits = omega arith }
 small-fits (negsuc n) h = record { sfits = omega arith }
 
-in-range : (a b z : ℤ) → a -ℤ b ≡ z → SFits w64 z → less a b ≡ a -ℤ b
-in-range a b (pos n) e f = let m : min n (most w64) ≡ n = omega (arith, f .sfits) in rw e (ap pos m)
-in-range a b (negsuc n) e f = let m : min n (most w64) ≡ n = omega (arith, f .sfits) in rw e (ap negsuc m)
-
 pub less-is : (a b : ℤ) → SFits w64 (a -ℤ b) → less a b ≡ a -ℤ b
-less-is a b f = in-range a b (a -ℤ b) refl f
+less-is a b f = clamp-same w64 (a -ℤ b) f
 
 -- ---- up to 2 ^ 53
 module _ (e : Earned) where

@@ -6,7 +6,7 @@ use lib.Pow.{pow-pos}
 use lib.IntN.{ℤ, pos, negsuc, natAbs}
 use mir.Syntax.{Width}
 use mir.Val.{SFits, hbits}
-use Rattle.integer.specs.Linear.{plus, minus, linear, abs}
+use Rattle.integer.specs.Linear.{plus, minus, linear, abs, within}
 
 -- the largest number of a signed width: 2^63 − 1 for 64 bits
 abbrev pub most : Width → ℕ
@@ -32,5 +32,8 @@ clamp-fits w (pos n) = record { sfits = omega (arith, pow-pos (hbits w)) }
 clamp-fits w (negsuc n) = record { sfits = omega (arith, pow-pos (hbits w)) }
 
 -- what is in range stays
+pub clamp-same : (w : Width) (z : ℤ) → SFits w z → clamp w z ≡ z
+clamp-same w z h = omega (linear, clamped w z, within h)
+
 pub clamp-small : (w : Width) (z : ℤ) → natAbs z ≤ most w → clamp w z ≡ z
 clamp-small w z h = omega (linear, clamped w z, abs z)

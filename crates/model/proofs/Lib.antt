@@ -24,6 +24,7 @@ pub mod Demand
 pub mod Example
 pub mod Cases
 pub mod SpentCases
+pub mod CreditCases
 pub mod OutlineCases
 pub mod Forecast
 pub mod BudgetCases

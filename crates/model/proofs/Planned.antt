@@ -12,7 +12,7 @@ use lib.IntN.{ℤ, pos, natAbs, _-ℤ_, +ℤ-idl}
 use lib.ListN.{length, getD}
 use mir.Syntax.{w64}
 use mir.Val.{SFits}
-use Rattle.integer.specs.Clamp.{clamp}
+use Rattle.integer.specs.Clamp.{clamp, clamp-same}
 use Rattle.integer.specs.Signs.{Between, like-abs, like-fits}
 use Rattle.integer.specs.Sums.{ints, nats, sum, total}
 use Rattle.integer.specs.Folds.{saturated, magnitudes}
@@ -34,7 +34,7 @@ use Rattle.lists.proofs.Lists.{keep-none, keep-all, keep-length, keep-fewer, fi
 use Rattle.model.proofs.Rising.{rest-rises, least}
 use Rattle.model.proofs.Days.{working-up-to, day-list-counted, day-list-empty, day-list-some, day-list-rises, day-list-within}
 use Rattle.model.proofs.Totals.{total-span, magnitudes-total}
-use Rattle.model.proofs.Saturating.{clamp-same, saturated-shares}
+use Rattle.model.proofs.Saturating.{saturated-shares}
 use Rattle.model.proofs.Amounts.{shares-span, amounts-spread}
 use Rattle.model.proofs.Costs.{cost-budget-fits}
 

@@ -26,7 +26,7 @@ use Rattle.model.proofs.Days.{day-list-one}
 use Rattle.model.proofs.Cases.{activity, book}
 
 -- in progress on the one day that it was planned for
-abbrev started : Option ℕ → Activity
+abbrev pub started : Option ℕ → Activity
 started parent = activity parent InProgress 20000 20000 (some 20000) none
 
 -- planned and paid, with nothing left to pay

@@ -31,6 +31,8 @@ completions =
     (cost (pos 500) (pos 30) (pos 4), pos 34 ∷ pos 466 ∷ [])
     ∷ (cost (pos 5) (pos 30) (pos 4), pos 34 ∷ negsuc 28 ∷ [])
     ∷ (cost (negsuc 1) max (pos 1), max ∷ min ∷ [])
+    ∷ (cost min min (pos 0), min ∷ pos 0 ∷ [])
+    ∷ (cost (pos 0) min (negsuc 0), min ∷ max ∷ [])
     ∷ []
 
 pub completion-cases : map (λ (c : Cost × List ℤ). completionOf (c .0) ∷ varianceOf (c .0) ∷ []) completions ≡ map (λ (c : Cost × List ℤ). c .1) completions
@@ -57,9 +59,14 @@ quotients =
     ∷ (max, pos 1, pos 1, max)
     ∷ (min, pos 1, pos 1, min)
     ∷ (min, negsuc 0, pos 1, max)
-    ∷ (max, negsuc 1, pos 1, max)
+    ∷ (max, negsuc 1, pos 1, min)
     -- 3 × 3,074,457,345,618,258,603 is 2^63 + 1
-    ∷ (negsuc 2, pos 3074457345618258603, pos 1, max)
+    ∷ (negsuc 2, pos 3074457345618258603, pos 1, min)
+    -- the quotient is held in the range and not the product: −0.99 × (2^63 − 1) is inside
+    ∷ (max, negsuc 98, pos 100, negsuc 9131138316486228047)
+    -- `credit-edge`: −2^63 − 0.01 and −2^63 − 1
+    ∷ (pos 8619973866219416643, negsuc 106, pos 100, min)
+    ∷ (pos 8540159293384051675, negsuc 107, pos 100, min)
     ∷ []
 
 pub quotient-cases :
@@ -89,9 +96,15 @@ shares-spent =
     ∷ (pos 0, pos 0, none)
     ∷ (pos 700, pos 0, none)
     ∷ (negsuc 0, pos 0, none)
-    -- beyond either end of 64 bits
+    -- `spent-signs`: beyond either end of 64 bits
+    ∷ (negsuc 0x7fff_ffff_ffff_fffe, pos 1, some min)
+    ∷ (max, negsuc 0, some min)
+    ∷ (negsuc 0x7fff_ffff_ffff_fffe, negsuc 0, some max)
     ∷ (max, pos 1, some max)
-    ∷ (max, negsuc 0, some max)
+    -- and −2^63 itself, spent and as a budget
+    ∷ (min, pos 10000, some min)
+    ∷ (min, min, some (pos 10000))
+    ∷ (pos 1, min, some (pos 0))
     ∷ []
 
 pub spent-cases : map (λ (q : ℤ × ℤ × Option ℤ). spentOf (q .0) (q .1)) shares-spent ≡ map (λ (q : ℤ × ℤ × Option ℤ). q .2) shares-spent
@@ -100,9 +113,15 @@ spent-cases = refl
 
 -- ---- shares: what does not divide is on the first days, and of the amount's sign
 
-pub shares : (spread (pos 8) 3 ≡ pos 3 ∷ pos 3 ∷ pos 2 ∷ []) × (spread (negsuc 6) 3 ≡ negsuc 2 ∷ negsuc 1 ∷ negsuc 1 ∷ []) × (spread (pos 2) 0 ≡ [])
+pub shares :
+    (spread (pos 8) 3 ≡ pos 3 ∷ pos 3 ∷ pos 2 ∷ [])
+    × (spread (negsuc 6) 3 ≡ negsuc 2 ∷ negsuc 1 ∷ negsuc 1 ∷ [])
+    × (spread (pos 2) 0 ≡ [])
+    -- −2^63, all on one day and over three
+    × (spread min 1 ≡ min ∷ [])
+    × (spread min 3 ≡ negsuc 3074457345618258602 ∷ negsuc 3074457345618258602 ∷ negsuc 3074457345618258601 ∷ [])
 unfolding shareOf sharesFrom
-shares = (refl, refl, refl)
+shares = (refl, refl, refl, refl, refl)
 
 pub signs : map signum (negsuc 6 ∷ pos 0 ∷ pos 7 ∷ []) ≡ negsuc 0 ∷ pos 0 ∷ pos 1 ∷ []
 signs = refl

@@ -3,9 +3,9 @@ ghost use lib.IntN.{_+ℤ_, _-ℤ_};
 ghost use mir.Syntax.{w64};
 ghost use Rattle.integer.specs.Clamp.{clamp};
 
-const MAX: i64 = 9223372036854775807;
+pub const MAX: i64 = 9223372036854775807;
 
-const MIN: i64 = -9223372036854775808;
+pub const MIN: i64 = -9223372036854775808;
 
 pub fn saturating_add(a: i64, b: i64) -> i64
     ensures { λ r. ⌜ r ≡ clamp w64 (a +ℤ b) ⌝ }

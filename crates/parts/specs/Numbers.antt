@@ -1,5 +1,6 @@
 -- A day, a date and a weekday as one number each, and what stands for an absent one.
-use Prim.Native.Nat.{_+_, _*_}
+use mathlib.Core.Option.{Option, none, some}
+use Prim.Native.Nat.{ℕ, _+_, _*_}
 use lib.IntN.{ℤ, pos, negsuc, _+ℤ_}
 use Rattle.dates.specs.declared.Day.{Day}
 use Rattle.dates.specs.declared.Day.the-variants.{At, Nothing as no-day}
@@ -12,6 +13,11 @@ use Rattle.dates.specs.Week.{indexOf}
 -- the least number of 64 bits
 abbrev pub absent : ℤ
 absent = negsuc 0x7fff_ffff_ffff_ffff
+
+-- 1 where there is a number
+abbrev pub presence : Option ℤ → ℕ
+presence none = 0
+presence (some z) = 1
 
 abbrev pub numberOf : Day → ℤ
 numberOf (At z) = z

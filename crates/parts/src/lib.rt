@@ -1,5 +1,6 @@
 // The inner functions under C names, for the programs that compare and time them beside the Rust: each gives what the function
-// that it calls gives, as one number. An absent value is the least number of 64 bits.
+// that it calls gives, as one number. An absent value is the least number of 64 bits; a share may be that too, so whether there is
+// one has a function of its own.
 use dates::Date;
 use dates::Day;
 use dates::WeekdayOf;
@@ -19,7 +20,7 @@ ghost use Rattle.floats.specs.Figures.{ratioOf, earnedOf};
 ghost use Rattle.dates.specs.Date.{fromYmd, ymdOf, weekdayOf};
 ghost use Rattle.computus.specs.Easter.{easterOf};
 ghost use Rattle.holidays.specs.Holiday.{isHoliday};
-ghost use Rattle.parts.specs.Numbers.{absent, numberOf, dateNumber, weekdayNumber};
+ghost use Rattle.parts.specs.Numbers.{absent, presence, numberOf, dateNumber, weekdayNumber};
 
 const NONE: i64 = -9223372036854775808;
 
@@ -44,6 +45,16 @@ pub extern "C" fn parts_spent(actual: i64, budget: i64) -> i64
     match money::scale::spent(actual, budget) {
         SpentShare::Of(share) => share,
         SpentShare::Undefined => NONE,
+    }
+}
+
+#[no_mangle]
+pub extern "C" fn parts_has_spent(actual: i64, budget: i64) -> u64
+    ensures { λ r. ⌜ r ≡ presence (spentOf actual budget) ⌝ }
+{
+    match money::scale::spent(actual, budget) {
+        SpentShare::Of(share) => 1,
+        SpentShare::Undefined => 0,
     }
 }
 

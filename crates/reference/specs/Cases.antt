@@ -1,6 +1,6 @@
 -- The thirteen reference cases of document 01, a table under one theorem: for each, what the definition gives and what it must give.
 -- A value that may be absent is no number or one.
-use Prim.Native.Nat.{ℕ}
+use Prim.Native.Nat.{ℕ, _+_}
 use mathlib.Core.Path.{_≡_}
 use mathlib.Core.List.{List, [], _∷_, map}
 use mathlib.Core.Option.{none, some}
@@ -69,8 +69,8 @@ cases =
     ∷ record { number = 4; gives = alone (pricedAt (pos 150) (minus 333)); expected = alone (minus 499) }
     -- 2^63 − 1 units at 100
     ∷ record { number = 5; gives = alone (pricedAt (pos MAX) (pos 100)); expected = alone (pos MAX) }
-    -- its negative at 101
-    ∷ record { number = 6; gives = alone (pricedAt (minus MAX) (pos 101)); expected = alone (pos MAX) }
+    -- its negative at 101, as document 02's fifth request has it: −2^63
+    ∷ record { number = 6; gives = alone (pricedAt (minus MAX) (pos 101)); expected = alone (minus (MAX + 1)) }
     -- undated 100, then 200 and 300 from 20,000: on the day before, and on the day
     ∷ record { number = 7; gives = alone (priceOn threePrices 19999); expected = alone (pos 100) }
     ∷ record { number = 7; gives = alone (priceOn threePrices 20000); expected = alone (pos 300) }

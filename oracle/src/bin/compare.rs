@@ -1,9 +1,10 @@
 //! Holds the archive against the Rust: leaf functions over random arguments, calls over random
 //! books, whole and damaged, with lent slices that are too short, fit, or are longer.
 //!
-//!     compare [SEED [ARGUMENTS [BOOKS [TRAPS]]]]
+//!     compare [SEED [ARGUMENTS [BOOKS [TRAPS [KIND]]]]]
 //!
-//! TRAPS is a file such as books/traps.txt: every call on every book of it comes first.
+//! TRAPS is a file such as books/traps.txt: every call on every book of it comes first. The random
+//! books are of one KIND, `any` if none is named.
 
 use std::process::ExitCode;
 
@@ -23,7 +24,10 @@ fn main() -> ExitCode {
     let number = |index: usize, usual: u64| numbers.get(index).copied().unwrap_or(usual);
     let (seed, arguments, books) = (number(0, 1), number(1, 200_000), number(2, 500));
     let traps = std::env::args().nth(4).map_or(0, |file| compare_traps(&file, seed));
-    let differences = traps + compare_leaves(seed, arguments as usize) + compare_books(seed, books);
+    let kind = std::env::args().nth(5).unwrap_or("any".to_string());
+    assert!(generate::kinds().any(|known| known == kind), "no kind of book {kind}");
+    let differences =
+        traps + compare_leaves(seed, arguments as usize) + compare_books(&kind, seed, books);
     println!("{differences} differences");
     if differences == 0 { ExitCode::SUCCESS } else { ExitCode::FAILURE }
 }
@@ -67,14 +71,14 @@ fn compare_traps(file: &str, seed: u64) -> usize {
 }
 
 /// Every call on every book, until a call differs.
-fn compare_books(seed: u64, books: u64) -> usize {
+fn compare_books(kind: &str, seed: u64, books: u64) -> usize {
     let mut differences = 0;
     for call in book_calls() {
         let mut random = Random::new(seed);
         let mut refused = 0;
         let difference = (0..books).find_map(|_| {
             let seed = random.number();
-            let outcome = compare_call(&call, seed);
+            let outcome = compare_call(&call, kind, seed);
             refused += u64::from(outcome.is_ok_and(|number| number != 0));
             outcome.err().map(|()| seed)
         });
@@ -82,7 +86,7 @@ fn compare_books(seed: u64, books: u64) -> usize {
             None => println!("{}: {books} books agree, {refused} refused", call.rust.name),
             Some(seed) => {
                 println!("{} DIFFERS on book {seed}", call.rust.name);
-                explain(&call, seed);
+                explain(&call, kind, seed);
                 differences += 1;
             }
         }
@@ -90,11 +94,12 @@ fn compare_books(seed: u64, books: u64) -> usize {
     differences
 }
 
-/// The bytes of a book and what the call is asked, by seed.
-fn question(call: &BookCall, random: &mut Random) -> (Vec<u8>, Vec<u64>) {
+/// The bytes of a book of the kind and what the call is asked, by seed.
+fn question(call: &BookCall, kind: &str, random: &mut Random) -> (Vec<u8>, Vec<u64>) {
+    // A call is mostly asked of whole books, the verdict mostly of damaged ones.
+    let whole = if call.rust.name == "verdict" { 3 } else { 8 };
     loop {
-        // A call is mostly asked of whole books, the verdict mostly of damaged ones.
-        let (book, bytes) = sample::drawn(if call.rust.name == "verdict" { 3 } else { 8 }, random);
+        let (book, bytes) = sample::drawn(kind, whole, random);
         if is_quick(call, &book) || random.one_in(20) {
             return (bytes, generate::asked(call.rust, &book, random));
         }
@@ -115,9 +120,9 @@ fn lent_length(needed: usize, random: &mut Random) -> usize {
 type Side = (Answer, Vec<u64>);
 
 /// Both sides' answers and lent numbers, the Rust's first.
-fn both_sides(call: &BookCall, seed: u64) -> (Side, Side) {
+fn both_sides(call: &BookCall, kind: &str, seed: u64) -> (Side, Side) {
     let mut random = Random::new(seed);
-    let (bytes, asked) = question(call, &mut random);
+    let (bytes, asked) = question(call, kind, &mut random);
     answers(call, &bytes, &asked, &mut random)
 }
 
@@ -133,14 +138,14 @@ fn answers(call: &BookCall, bytes: &[u8], asked: &[u64], random: &mut Random) ->
 }
 
 /// The number that both return, if all of their answers and lent numbers agree.
-fn compare_call(call: &BookCall, seed: u64) -> Result<u64, ()> {
-    let (rust, archive) = both_sides(call, seed);
+fn compare_call(call: &BookCall, kind: &str, seed: u64) -> Result<u64, ()> {
+    let (rust, archive) = both_sides(call, kind, seed);
     if rust == archive { Ok(rust.0.0) } else { Err(()) }
 }
 
-fn explain(call: &BookCall, seed: u64) {
-    let (bytes, asked) = question(call, &mut Random::new(seed));
-    let ((rust, expected), (archive, found)) = both_sides(call, seed);
+fn explain(call: &BookCall, kind: &str, seed: u64) {
+    let (bytes, asked) = question(call, kind, &mut Random::new(seed));
+    let ((rust, expected), (archive, found)) = both_sides(call, kind, seed);
     println!("  {} bytes, asked {asked:?}, lent {}", bytes.len(), found.len());
     println!("  returned {archive:?}, the Rust {rust:?}");
     let first = expected.iter().zip(&found).position(|(a, b)| a != b);
