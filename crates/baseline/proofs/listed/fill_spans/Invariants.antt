@@ -1,0 +1,17 @@
+-- `fill_spans` meets its contract: one row a turn.
+use Prim.Native.Nat.{◌+◌, ◌*◌, ◌-◌}
+use native.Mathlib.Omega.{arith}
+use mathlib.Core.Path.{◌≡◌, refl, sym, ◌∙◌}
+use lib.ListN.{length, get_or, length-set}
+use Rattle.lists.specs.Lists.{span}
+use Rattle.flat.proofs.Written.{Written}
+use Rattle.flat.proofs.Spans.{rows_none, rows_more, rows_end}
+use Rattle.activities.proofs.Scheduling.{schedule_length}
+use Rattle.baseline.proofs.Listing.{span_in, three_set, spans_listed}
+use Rattle.baseline.proofs.listed.fill_spans.Given as goal
+
+abbrev pub invariant-loop-i : goal.invariant-loop-i
+invariant-loop-i l = (length l.out ≡ l.n * 3) × Written 3 (span_in l.schedule l.lines) (span 0 l.n) l.i (l.i * 3) l.out
+
+abbrev pub decreases-loop-i : goal.decreases-loop-i
+decreases-loop-i l = l.n - l.i

@@ -1,0 +1,10 @@
+-- `lined_or` meets its contract: by the mark.
+use mathlib.Core.Path.{refl}
+use borrow.Author.Tests.{eq-eqb, ne_eqb}
+use Rattle.baseline.proofs.listed.lined_or.Goals as goal
+
+pub returns-then-mark-eq0 : goal.returns-then-mark-eq0
+returns-then-mark-eq0 c = rw (eq-eqb _ _ c.if-mark-eq0.true) refl
+
+pub returns : goal.returns
+returns c = rw (ne_eqb _ _ c.if-mark-eq0.false) refl

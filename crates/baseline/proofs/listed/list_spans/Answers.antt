@@ -1,0 +1,74 @@
+-- `list_spans` meets its contract: the table of lines has room for the activities, few or not.
+use Prim.Native.Nat.{◌*◌, ◌≤◌}
+use native.Mathlib.Omega.{arith}
+use mathlib.Core.Path.{sym, subst}
+use lib.ListN.{length}
+use lib.Seq.{length-take-le}
+use borrow.Author.Rules.{rules}
+use Rattle.format.specs.Verdict.{content}
+use Rattle.format.specs.InRange.{InRange}
+use Rattle.format.proofs.Theorems.{content_in_range}
+use Rattle.book.proofs.Plan.{activities_most}
+use Rattle.baseline.specs.Lines.{IsLines}
+use Rattle.baseline.proofs.Taking.{zeros_taken}
+use Rattle.baseline.proofs.Listing.{lines_are}
+use Rattle.baseline.proofs.listed.list_spans.Goals as goal
+use Rattle.baseline.proofs.listed.list_spans.Goals.{After-lines_of-list, After-shared_slice_known-1, Start}
+
+most : (s : Start) → length s.args.budgets.now ≤ 500
+most s = omega (arith, s.requires.1.1.1.1, activities_most s.requires.0.plan)
+
+-- the lines that are read
+read : (c : After-lines_of-list) → IsLines c.args.book.now c.lines_of-list.result (length c.args.budgets.now) × InRange (content c.args.book.now) × (length c.args.budgets.now ≤ 500)
+read c =
+    let p = c.requires.opened.plan in (
+      subst (IsLines c.args.book.now c.lines_of-list.result) (sym c.requires.schedule_value.1.1.1) (lines_are p c.requires.opened.ledger.baseline _ (c.lines_of-list.ensures _ _)),
+      content_in_range c.args.book.now p.accepted,
+      most c.before.before.before.before,
+    )
+
+pub list_by-requires : goal.list_by-requires
+list_by-requires c =
+    let n = c.requires.schedule_value.1.1 in
+    (read (goal.at.list_by-requires c).After-lines_of-list, (c.requires.schedule_value.0, (c.requires.schedule_value.1.0, (length-take-le _ _ (omega (arith, c.if-n-le-FEW.true)), zeros_taken (length c.args.budgets.now * 5) 160, omega (arith, n.0, n.1)))))
+
+pub list_by-requires-2 : goal.list_by-requires-2
+list_by-requires-2 c =
+    let n = c.requires.schedule_value.1.1 in
+    (read (goal.at.list_by-requires-2 c).After-lines_of-list, (c.requires.schedule_value.0, (c.requires.schedule_value.1.0, (length-take-le _ _ (omega (arith, most (goal.at.list_by-requires-2 c).After-shared_slice_known-1)), zeros_taken (length c.args.budgets.now * 5) 2500, omega (arith, n.0, n.1)))))
+
+pub overflow_mul-lines : goal.overflow_mul-lines
+overflow_mul-lines c = omega (arith, c.if-n-le-FEW.true)
+
+pub slice_bounds-lines-end : goal.slice_bounds-lines-end
+slice_bounds-lines-end c = omega (arith, c.if-n-le-FEW.true)
+
+pub slice_bounds-list_by-end : goal.slice_bounds-list_by-end
+slice_bounds-list_by-end c = sym (length-take-le _ _ (omega (arith, c.if-n-le-FEW.true)))
+
+pub shape_of-listed-then-n-le-FEW : goal.shape_of-listed-then-n-le-FEW
+shape_of-listed-then-n-le-FEW c = c.listed-1.given
+
+pub shape_of-budgets-then-n-le-FEW : goal.shape_of-budgets-then-n-le-FEW
+shape_of-budgets-then-n-le-FEW c = c.budgets-1.given
+
+pub returns-then-n-le-FEW : goal.returns-then-n-le-FEW
+returns-then-n-le-FEW c = c.list_by.ensures
+
+pub overflow_mul-lines-2 : goal.overflow_mul-lines-2
+overflow_mul-lines-2 c = omega (arith, most (goal.at.overflow_mul-lines-2 c).After-shared_slice_known-1)
+
+pub slice_bounds-lines-end-2 : goal.slice_bounds-lines-end-2
+slice_bounds-lines-end-2 c = omega (arith, most (goal.at.slice_bounds-lines-end-2 c).After-shared_slice_known-1)
+
+pub slice_bounds-list_by-end-2 : goal.slice_bounds-list_by-end-2
+slice_bounds-list_by-end-2 c = sym (length-take-le _ _ (omega (arith, most (goal.at.slice_bounds-list_by-end-2 c).After-shared_slice_known-1)))
+
+pub shape_of-listed : goal.shape_of-listed
+shape_of-listed c = c.listed-2-1.given
+
+pub shape_of-budgets : goal.shape_of-budgets
+shape_of-budgets c = c.budgets-2-1.given
+
+pub returns : goal.returns
+returns c = c.list_by-2.ensures

@@ -1,0 +1,45 @@
+-- `free_holidays` meets its contract: what is left of the years, taken off, leaves what all of them leave.
+use Prim.Native.Nat.{◌+◌, ◌-◌, ◌≤◌}
+use mathlib.Core.Path.{◌≡◌, refl, sym, ap, ◌∙◌}
+use mathlib.Core.List.{foldl}
+use native.Mathlib.Omega.{arith}
+use borrow.Author.Rules.{rules}
+use lib.IntN.{ℤ}
+use lib.ListN.{length}
+use mir.Facts.{to_z-of_z}
+use Rattle.holidays.specs.Year.{holidays_in}
+use Rattle.calendar.specs.Tables.{freed}
+use Rattle.calendar.proofs.Freed.{years_past, holidays_up_to, free_next_year, free_no_year, shows_freed}
+use Rattle.calendar.proofs.usual.free_holidays.Goals as goal
+use Rattle.calendar.proofs.usual.free_holidays.Goals.{In-loop-n}
+
+pub returns-then-to-from : goal.returns-then-to-from
+returns-then-to-from c = λ p s. record { at = λ date h k. absurd (omega arith) }
+
+pub loop-n-init : goal.loop-n-init
+loop-n-init c = (omega arith, refl, refl)
+
+pub overflow_cast-n : goal.overflow_cast-n
+overflow_cast-n c = search rules
+
+pub loop-n-smaller : goal.loop-n-smaller
+loop-n-smaller c = omega arith
+
+pub loop-n-preserved : goal.loop-n-preserved
+loop-n-preserved c =
+    let l = c.loop-n in
+    let s = c.args in
+    let e = to_z-of_z (overflow_cast-n (goal.at.loop-n-preserved c).In-loop-n) in (
+      omega arith,
+      c.free_year.auto.1.1.0 ∙ l.invariant.1,
+      free_next_year s.from (years_past s.to) l.n (omega arith) l.days (c.free_year.ensures ∙ ap (λ (y : ℤ). foldl (freed s.from) l.days (holidays_in y)) e) ∙ l.invariant.2,
+    )
+
+pub shape_of-days : goal.shape_of-days
+shape_of-days c = c.loop-n.invariant.1
+
+pub returns : goal.returns
+returns c =
+    let l = c.loop-n in
+    shows_freed c.args.from c.args.to c.requires.to_bound c.args.days.now c.requires.from_in_bounds
+    (sym (free_no_year c.args.from (years_past c.args.to) l.n (omega arith) l.days) ∙ l.invariant.2)

@@ -1,0 +1,34 @@
+-- `fill_assignments` meets its contract: one assignment a turn.
+use Prim.Native.Nat.{◌-◌}
+use mathlib.Core.Path.{sym, ◌∙◌}
+use borrow.Author.Rules.{rules}
+use Rattle.format.specs.Format.{assignment}
+use Rattle.sections.specs.Sections.{elements}
+use Rattle.activities.proofs.Rows.{FilledRows, rows_none, rows_more, rows_end}
+use Rattle.charges.specs.Assigned.{link_row, units_row}
+use Rattle.charges.proofs.Assigning.{link_wide, units_wide}
+use Rattle.charges.proofs.assigned.fill_assignments.Goals as goal
+
+pub loop-i-init : goal.loop-i-init
+loop-i-init c =
+    let room = c.requires in
+    (rows_none _ _ _ _ _ _ link_wide _ room.0, rows_none _ _ _ _ _ _ units_wide _ room.1)
+
+pub loop-i-preserved : goal.loop-i-preserved
+loop-i-preserved c =
+    let loop = c.loop-i in
+    let more = c.loop-i-test.true in
+    (rows_more loop.invariant.0 link_wide more c.read_assignment-x.ensures c.set_link.ensures, rows_more loop.invariant.1 units_wide more c.read_assignment-x.ensures c.set_units.ensures)
+
+pub shape_of-links : goal.shape_of-links
+shape_of-links c = c.loop-i.invariant.0.long ∙ sym c.requires.0
+
+pub shape_of-units : goal.shape_of-units
+shape_of-units c = c.loop-i.invariant.1.long ∙ sym c.requires.1
+
+pub returns : goal.returns
+unfolding elements
+returns c =
+    let inv = c.loop-i.invariant in
+    let left = c.loop-i-test.false in
+    (rows_end inv.0 left, rows_end inv.1 left)

@@ -1,0 +1,26 @@
+-- `few_of` meets its contract: a long stretch is left to `many_rows`.
+use Rattle.book.proofs.Plan.{activities_most}
+use Rattle.bydate.proofs.Writing.{nothing_points}
+use Rattle.curve.proofs.Curving.{narrowed_asked, narrowed_short, narrowed_rows, narrowed_nothing}
+use borrow.Author.Rules.{rules}
+use Rattle.curve.proofs.few_of.Goals as goal
+
+pub returns-then-asked : goal.returns-then-asked
+returns-then-asked c =
+    nothing_points _ _ (narrowed_nothing c.reach_of-reach.ensures c.requires.are_phased c.args.between c.ask-asked.ensures c.if-asked.true)
+
+pub short_rows-requires : goal.short_rows-requires
+short_rows-requires c =
+    let reach = c.reach_of-reach.ensures in (
+      narrowed_asked reach c.requires.are_phased c.args.between c.ask-asked.ensures c.if-asked.false,
+      narrowed_short reach c.requires.are_phased c.args.between c.ask-asked.ensures 256 c.if-reach.true,
+    )
+
+pub returns-then-reach : goal.returns-then-reach
+returns-then-reach c =
+    narrowed_rows c.reach_of-reach.ensures c.requires.are_phased c.args.between c.ask-asked.ensures c.short_rows.ensures
+
+pub many_rows-requires : goal.many_rows-requires
+many_rows-requires c =
+    let s = c.requires in
+    (s.0, activities_most s.0.plan)

@@ -1,0 +1,18 @@
+-- `short_rows` meets its contract: the tables have room.
+use Prim.Native.Nat.{ℕ}
+use mathlib.Core.Path.{sym}
+use native.Mathlib.Omega.{arith}
+use lib.ListN.{length-replicate}
+use Rattle.bydate.proofs.Arrays.{empty_table}
+use Rattle.curve.proofs.Curving.{short_days}
+use borrow.Author.Rules.{rules}
+use Rattle.curve.proofs.short_rows.Goals as goal
+
+pub slice_bounds-rows_in-end : goal.slice_bounds-rows_in-end
+slice_bounds-rows_in-end c = sym (length-replicate {A = ℕ} 4096 0)
+
+pub slice_bounds-rows_in-end-2 : goal.slice_bounds-rows_in-end-2
+slice_bounds-rows_in-end-2 c = sym (length-replicate {A = ℕ} 512 0)
+
+pub rows_in-requires : goal.rows_in-requires
+rows_in-requires c = let s = c.requires in (s.0, (rw (length-replicate {A = ℕ} 4096 0) (short_days s.0 256 s.1), empty_table 512 (omega (arith, s.1))))

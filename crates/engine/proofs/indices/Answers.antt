@@ -1,0 +1,16 @@
+-- `indices` meets its contract: a refused book or call, or what is answered with its rows.
+use borrow.Author.Rules.{rules}
+use Rattle.answers.proofs.Replies.{asked_in_book, call_answered, call_refused}
+use Rattle.engine.proofs.indices.Goals as goal
+
+pub returns-then-opening : goal.returns-then-opening
+returns-then-opening c = call_refused _ _ _ _ c.open_for-opening.ensures c.if-opening.true
+
+pub indices_of-requires : goal.indices_of-requires
+indices_of-requires c =
+    let asked = c.open_for-opening.ensures in
+    (asked.opens c.if-opening.false, asked_in_book asked c.if-opening.false)
+
+pub returns : goal.returns
+returns c =
+    call_answered _ _ _ _ c.open_for-opening.ensures c.if-opening.false c.indices_of.ensures

@@ -1,0 +1,20 @@
+-- `forecast_of` meets its contract: each return follows from the tests before it.
+use borrow.Author.Tests.{eq-eqb, ne_eqb}
+use Rattle.format.specs.Enumeration.{forecast_of}
+use Rattle.fields.proofs.enumerations.forecast_of.Goals as goal
+
+pub returns-then-v-eq0 : goal.returns-then-v-eq0
+unfolding forecast_of
+returns-then-v-eq0 c = simp (eq-eqb _ _ c.if-v-eq0.true)
+
+pub returns-then-v-eq1 : goal.returns-then-v-eq1
+unfolding forecast_of
+returns-then-v-eq1 c = simp (ne_eqb _ _ c.if-v-eq0.false, eq-eqb _ _ c.if-v-eq1.true)
+
+pub returns-then-v-eq2 : goal.returns-then-v-eq2
+unfolding forecast_of
+returns-then-v-eq2 c = simp (ne_eqb _ _ c.if-v-eq0.false, ne_eqb _ _ c.if-v-eq1.false, eq-eqb _ _ c.if-v-eq2.true)
+
+pub returns : goal.returns
+unfolding forecast_of
+returns c = simp (ne_eqb _ _ c.if-v-eq0.false, ne_eqb _ _ c.if-v-eq1.false, ne_eqb _ _ c.if-v-eq2.false)

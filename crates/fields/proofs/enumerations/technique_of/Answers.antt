@@ -1,0 +1,36 @@
+-- `technique_of` meets its contract: each return follows from the tests before it.
+use borrow.Author.Tests.{eq-eqb, ne_eqb}
+use Rattle.format.specs.Enumeration.{technique_of}
+use Rattle.fields.proofs.enumerations.technique_of.Goals as goal
+
+pub returns-then-v-eq0 : goal.returns-then-v-eq0
+unfolding technique_of
+returns-then-v-eq0 c = simp (eq-eqb _ _ c.if-v-eq0.true)
+
+pub returns-then-v-eq1 : goal.returns-then-v-eq1
+unfolding technique_of
+returns-then-v-eq1 c = simp (ne_eqb _ _ c.if-v-eq0.false, eq-eqb _ _ c.if-v-eq1.true)
+
+pub returns-then-v-eq2 : goal.returns-then-v-eq2
+unfolding technique_of
+returns-then-v-eq2 c = simp (ne_eqb _ _ c.if-v-eq0.false, ne_eqb _ _ c.if-v-eq1.false, eq-eqb _ _ c.if-v-eq2.true)
+
+pub returns-then-v-eq3 : goal.returns-then-v-eq3
+unfolding technique_of
+returns-then-v-eq3 c =
+    simp (
+      ne_eqb _ _ c.if-v-eq0.false,
+      ne_eqb _ _ c.if-v-eq1.false,
+      ne_eqb _ _ c.if-v-eq2.false,
+      eq-eqb _ _ c.if-v-eq3.true,
+    )
+
+pub returns : goal.returns
+unfolding technique_of
+returns c =
+    simp (
+      ne_eqb _ _ c.if-v-eq0.false,
+      ne_eqb _ _ c.if-v-eq1.false,
+      ne_eqb _ _ c.if-v-eq2.false,
+      ne_eqb _ _ c.if-v-eq3.false,
+    )

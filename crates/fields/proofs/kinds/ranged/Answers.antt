@@ -1,0 +1,18 @@
+-- `ranged` meets its contract, by cases on the position.
+use borrow.Author.Rules.{rules}
+use Rattle.format.specs.Reader.{ranged}
+use Rattle.fields.proofs.Common.{ranged_few}
+use Rattle.fields.proofs.kinds.ranged.Goals as goal
+
+pub returns-then-fits : goal.returns-then-fits
+returns-then-fits c =
+    rw c.in-At.is (ranged_few _ _ _ c.short-n.ensures _ _ _ _ (c.before.fits2.ensures c.if-fits.true))
+
+pub returns-else-fits : goal.returns-else-fits
+unfolding ranged
+returns-else-fits c =
+    rw (c.in-At.is, ← c.number-n.ensures, ← c.within.ensures) c.found.ensures
+
+pub returns-in-Refused : goal.returns-in-Refused
+unfolding ranged
+returns-in-Refused c = rw c.in-Refused.is

@@ -1,0 +1,19 @@
+-- `tcpi` meets its contract.
+use mathlib.Core.Path.{ap₂, ◌∙◌}
+use mir.Syntax.{w64}
+use borrow.Author.Rules.{rules}
+use Rattle.integer.specs.Linear.{back}
+use Rattle.floats.specs.Figures.{ratio_of}
+use Rattle.model.specs.Forecast as definition
+use Rattle.forecast.proofs.tcpi.Goals as goal
+
+pub returns : goal.returns
+unfolding definition.tcpi
+returns c =
+    let g = c.struct_told-2-1.given in
+    let left = c.to_earn-left in
+    let unspent = c.saturating_sub-unspent in
+    let e = c.args.e in
+    c.ratio.ensures
+    ∙ ap₂ ratio_of (back w64 left.result left.type_inv ∙ left.ensures)
+    (back w64 unspent.result unspent.type_inv ∙ unspent.ensures ∙ ap₂ definition.less (back w64 e.budget g.0.1) (back w64 e.actual g.1.1.1.0.1))

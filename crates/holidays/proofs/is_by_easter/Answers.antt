@@ -1,0 +1,51 @@
+-- `holidays::is_by_easter` meets its contract.
+-- Assumes nothing.
+use borrow.Author.Rules.{rules}
+use mathlib.Core.Path.{◌≡◌, ap, sym, ◌∙◌}
+use mathlib.Core.Bool.{true}
+use lib.IntN.{ℤ, ◌-ℤ◌}
+use mir.Syntax.{w32}
+use mir.Val.{to_z, of_z}
+use mir.Facts.{to_z-of_z}
+use Rattle.dates.specs.declared.Day.TheVariants.{At}
+use Rattle.dates.specs.Date.{is_day}
+use Rattle.computus.specs.Easter.{easter_of}
+use Rattle.holidays.specs.Holiday.{is_movable, by_easter}
+use Rattle.computus.proofs.Meeus.{easter_day}
+use Rattle.holidays.proofs.Ranges.{day_fits, distance_fits}
+use Rattle.holidays.proofs.is_by_easter.Goals as goal
+use Rattle.holidays.proofs.is_by_easter.Goals.{In-At}
+
+-- Easter Sunday e, and the code's distance from it
+module _ (c : tie.After-known-told) where
+  abbrev e : ℤ
+  e = c.before.sunday.given.0.0
+
+  abbrev days : ℤ
+  days = c.before.before.before.before.args.days
+
+  sunday : easter_of c.before.before.before.before.args.year ≡ At e
+  sunday =
+      let s = c.before.before.before in
+      ap easter_of (sym (to_z-of_z s.before.ranges.year)) ∙ sym s.easter.ensures ∙ c.before.sunday.given.1
+
+  in_range_lem : is_day e ≡ true
+  in_range_lem = easter_day _ e sunday
+
+  distance : to_z w32 (of_z w32 days) -ℤ to_z w32 (of_z w32 e) ≡ days -ℤ e
+  distance = rw (to_z-of_z c.before.before.before.before.ranges.days, to_z-of_z (day_fits e in_range_lem))
+
+pub overflow_sub-days : goal.overflow_sub-days
+overflow_sub-days c = rw (distance c) (distance_fits _ _ c.requires (in_range_lem c))
+
+pub returns-in-At : goal.returns-in-At
+unfolding by_easter
+returns-in-At c =
+    let f = distance_fits _ _ c.requires (in_range_lem (goal.at.returns-in-At c).In-At) in
+    rw (sunday (goal.at.returns-in-At c).In-At) (c.is_movable.ensures ∙ ap is_movable (ap (λ (v : ℤ). to_z w32 (of_z w32 v)) (distance (goal.at.returns-in-At c).In-At) ∙ to_z-of_z f))
+
+pub returns-in-Nothing : goal.returns-in-Nothing
+unfolding by_easter
+returns-in-Nothing c =
+    let n = ap easter_of (sym (to_z-of_z c.ranges.year)) ∙ sym c.easter-sunday.ensures ∙ c.in-Nothing.is in
+    rw n

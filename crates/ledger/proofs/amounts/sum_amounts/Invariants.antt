@@ -1,0 +1,24 @@
+-- `sum_amounts` meets its contract: one amount a turn.
+use Prim.Native.Nat.{ℕ, ◌+◌, ◌-◌}
+use mathlib.Core.Path.{◌≡◌, refl, sym, ap, ◌∙◌}
+use mathlib.Core.List.{List}
+use lib.IntN.{ℤ, pos}
+use lib.ListN.{drop}
+use mir.Syntax.{w64}
+use mir.Val.{to_z}
+use Rattle.integer.specs.Linear.{back}
+use Rattle.integer.specs.Folds.{saturated}
+use Rattle.format.specs.declared.Pos.{Pos}
+use Rattle.format.specs.Codec.{alike, stay}
+use Rattle.format.specs.Format.{amount}
+use Rattle.sections.specs.Sections.{elements}
+use Rattle.tree.specs.Figures.{saturating_add}
+use Rattle.ledger.proofs.Reading.{Reading, reading_none, reading_more, reading_next, reading_end}
+use borrow.Author.Rules.{rules}
+use Rattle.ledger.proofs.amounts.sum_amounts.Given as goal
+
+abbrev pub invariant-loop-i : goal.invariant-loop-i
+invariant-loop-i l = Along l.book l.count l.initial.next l.sum l.i l.next
+
+abbrev pub decreases-loop-i : goal.decreases-loop-i
+decreases-loop-i l = l.count - l.i

@@ -1,0 +1,75 @@
+-- `put_lines` meets its contract: the project's line, then one line a turn where an activity is marked.
+use Prim.Native.Nat.{◌-◌}
+use native.Mathlib.Omega.{arith}
+use mathlib.Core.Path.{◌≡◌, refl, sym, ap, ◌∙◌}
+use mathlib.Core.Bool.{not}
+use mathlib.Core.List.{map, flat_map}
+use mathlib.Core.Logic.{⊎_elim}
+use mathlib.Core.Option.{none}
+use lib.IntN.{ℤ}
+use lib.ListN.{length}
+use lib.Seq.{sets}
+use mir.Syntax.{w64}
+use mir.Facts.{to_z-of_z}
+use mir.Val.{to_z}
+use Rattle.integer.specs.Linear.{seen}
+use borrow.Author.Tests.{eq-eqb, ne_eqb}
+use Rattle.model.specs.Budgets.{BudgetLine}
+use Rattle.flat.proofs.Tables.{flat_length}
+use Rattle.flat.proofs.Written.{Writing, writing_none, writing_length, writing_room, writing_more, writing_past, writing_end}
+use Rattle.answers.specs.Rows.{budget_row}
+use Rattle.ledger.specs.Accounts.{is_marked}
+use Rattle.ledger.specs.Lines.{line_in, activity_line, lines_in}
+use Rattle.ledger.proofs.Named.{onward, onward_first, onward_taken, onward_passed, onward_end}
+use Rattle.ledger.proofs.Lined.{row_long}
+use borrow.Author.Rules.{rules}
+use Rattle.ledger.proofs.lines.put_lines.Goals as goal
+use Rattle.ledger.proofs.lines.put_lines.Goals.{At-loop-i, In-loop-i, Start, else-marks-i-ne0, then-marks-i-ne0}
+
+pub put_project-requires : goal.put_project-requires
+unfolding lines_in
+put_project-requires c = omega (arith, c.requires.out_len)
+
+pub loop-i-init : goal.loop-i-init
+unfolding lines_in
+loop-i-init c =
+    let line = activity_line c.args.accounts.now c.args.parents.now c.args.costs.now in
+    let test = is_marked c.args.marks.now in
+    let n = length c.args.parents.now in
+    let first = writing_none 10 budget_row (lines_in c.args.accounts.now c.args.parents.now c.args.costs.now c.args.marks.now (seen w64 c.args.whole)) row_long c.args.out.now c.requires.out_len in
+    writing_past (writing_more first refl (row_long (line_in c.args.accounts.now none 0 (seen w64 c.args.whole))) refl
+    c.put_project.ensures) (ap (map line) (sym (onward_first test n))) refl refl
+
+pub put_line-requires : goal.put_line-requires
+put_line-requires c =
+    let l = c.loop-i in
+    writing_room l.invariant (ap (map _) (onward_taken _ _ l.i c.loop-i-test.true (ap not (ne_eqb _ _ c.if-marks-i-ne0.true))))
+
+abbrev start : (l : At-loop-i) → Start
+start l = l.before.before.before.before.before.before.before
+
+-- what is lent keeps its length
+full : (l : At-loop-i) → length l.loop.out ≡ length (start l).args.out.now
+unfolding lines_in
+full l = writing_length l.loop.invariant ∙ flat_length 10 budget_row row_long _ ∙ sym (start l).requires.1
+
+pub overflow_add-at : goal.overflow_add-at
+overflow_add-at c =
+    let l = c.loop-i in
+    omega (arith, writing_room l.invariant (ap (map _) (onward_taken _ _ l.i c.loop-i-test.true (ap not (ne_eqb _ _ c.if-marks-i-ne0.true)))), full (goal.at.overflow_add-at c).In-loop-i, (start (goal.at.overflow_add-at c).In-loop-i).well_formed.1.1.1.1.1.0)
+
+pub loop-i-preserved : goal.loop-i-preserved
+loop-i-preserved c =
+    let l = c.loop-i in
+    let more = c.loop-i-test.true in
+    elim c.if-marks-i-ne0.branch [ then-marks-i-ne0 w ↦ writing_more l.invariant (ap (map _) (onward_taken _ _ l.i more (ap not (ne_eqb _ _ w.0.taken)))) (row_long _) w.7 (w.6 ∙ w.3.ensures ∙ ap (λ (x : BudgetLine). sets l.out l.at (budget_row x)) w.1.ensures) | else-marks-i-ne0 w ↦ writing_past l.invariant (ap (map _) (onward_passed _ _ l.i more (ap not (eq-eqb _ _ w.0.left)))) w.2 w.true_is ]
+
+pub shape_of-out : goal.shape_of-out
+shape_of-out c = full (goal.at.shape_of-out c).At-loop-i
+
+pub returns : goal.returns
+returns c =
+    let l = c.loop-i in
+    let s = start (goal.at.returns c).At-loop-i in
+    writing_end l.invariant (ap (map _) (onward_end _ _ l.i c.loop-i-test.false))
+    ∙ ap (λ (z : ℤ). flat_map budget_row (lines_in s.args.accounts.now s.args.parents.now s.args.costs.now s.args.marks.now z)) (to_z-of_z s.fits.whole)

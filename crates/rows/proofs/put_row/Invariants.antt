@@ -1,0 +1,17 @@
+-- `put_row` meets its contract: one number a turn.
+use Prim.Native.Nat.{ℕ, ◌+◌, ◌-◌, ◌≤◌}
+use native.Mathlib.Omega.{arith}
+use mathlib.Core.Path.{◌≡◌, refl, ap, ◌∙◌}
+use mathlib.Core.List.{[]}
+use lib.ListN.{length, get_or, drop, length-set, drop_of_length-le}
+use lib.Seq.{sets}
+use borrow.Author.Rules.{rules}
+use Rattle.flat.proofs.Sets.{sets_step}
+use Rattle.rows.proofs.put_row.Given as goal
+
+abbrev pub invariant-loop-k : goal.invariant-loop-k
+invariant-loop-k l =
+    (l.k ≤ length l.row) × (length l.out ≡ length l.initial.out) × (sets l.out (l.at + l.k) (drop l.k l.row) ≡ sets l.initial.out l.at l.row)
+
+abbrev pub decreases-loop-k : goal.decreases-loop-k
+decreases-loop-k l = length l.row - l.k

@@ -1,0 +1,17 @@
+-- `mark_of` meets its contract, by what is named.
+use native.Mathlib.Omega.{arith}
+use borrow.Author.Rules.{rules}
+use Rattle.sections.specs.Sections.{mark_of}
+use Rattle.sections.proofs.budgets.mark_of.Goals as goal
+
+pub returns-in-Absent : goal.returns-in-Absent
+unfolding mark_of
+returns-in-Absent c = rw c.in-Absent.is
+
+pub returns-then-a-lt500 : goal.returns-then-a-lt500
+unfolding mark_of
+returns-then-a-lt500 c = rw c.in-Present.is (omega arith)
+
+pub returns-else-a-lt500 : goal.returns-else-a-lt500
+unfolding mark_of
+returns-else-a-lt500 c = rw c.in-Present.is (omega arith)

@@ -1,0 +1,7 @@
+-- `surukeva_performance` meets its contract: the call's answer, given in C's way.
+use borrow.Author.Rules.{rules}
+use Rattle.answers.proofs.Replies.{returned}
+use Rattle.surukeva.proofs.surukeva_performance.Goals as goal
+
+pub returns : goal.returns
+returns c = returned _ _ _ _ c.performance-answer.ensures c.give.ensures.0 c.give.ensures.1

@@ -1,0 +1,7 @@
+-- `surukeva_planned_curve` meets its contract: the call's answer, given in C's way.
+use borrow.Author.Rules.{rules}
+use Rattle.answers.proofs.Replies.{returned}
+use Rattle.surukeva.proofs.surukeva_planned_curve.Goals as goal
+
+pub returns : goal.returns
+returns c = returned _ _ _ _ c.planned_curve-answer.ensures c.give.ensures.0 c.give.ensures.1

@@ -1,0 +1,7 @@
+-- `surukeva_spending_by_month` meets its contract: the call's answer, given in C's way.
+use borrow.Author.Rules.{rules}
+use Rattle.answers.proofs.Replies.{returned}
+use Rattle.surukeva.proofs.surukeva_spending_by_month.Goals as goal
+
+pub returns : goal.returns
+returns c = returned _ _ _ _ c.spending_by_month-answer.ensures c.give.ensures.0 c.give.ensures.1

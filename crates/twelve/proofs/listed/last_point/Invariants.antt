@@ -1,0 +1,15 @@
+-- `last_point` meets its contract: no date that it has passed has a point, and the first one has.
+use Prim.Native.Nat.{ℕ, ◌-◌, ◌≤◌, ◌<◌}
+use mathlib.Core.Path.{◌≡◌, sym, ap, ◌∙◌}
+use mathlib.Core.Bool.{false}
+use native.Mathlib.Omega.{arith}
+use Rattle.bydate.specs.Pointed.{is_marked}
+use Rattle.twelve.proofs.Searching.{passed_down}
+use Rattle.twelve.proofs.listed.last_point.Given as goal
+
+abbrev pub invariant-loop-date : goal.invariant-loop-date
+invariant-loop-date l =
+    (l.first ≤ l.date) × (l.date ≤ l.reach.to) × ((d : ℕ) → l.date < d → d ≤ l.reach.to → is_marked l.reach.base l.table d ≡ false)
+
+abbrev pub decreases-loop-date : goal.decreases-loop-date
+decreases-loop-date l = l.date - l.first

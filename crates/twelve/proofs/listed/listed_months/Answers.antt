@@ -1,0 +1,48 @@
+-- `listed_months` meets its contract: the months of the first and the last point.
+use Prim.Native.Nat.{◌≤◌}
+use native.Mathlib.Omega.{arith}
+use Rattle.twelve.specs.Listed.{IsPoint}
+use Rattle.twelve.proofs.Spanned.{months_order, are_listed, none_listed}
+use Rattle.twelve.proofs.listed.listed_months.Goals as goal
+use Rattle.twelve.proofs.listed.listed_months.Goals.{After-month_at, Else-reach-first}
+
+pub returns-then-reach-first : goal.returns-then-reach-first
+returns-then-reach-first c = none_listed c.first_point-first.ensures c.if-reach-first.true
+
+-- the first point is one
+begins : (c : Else-reach-first) → IsPoint c.args.table.now c.args.reach c.first_point-first.result
+begins c =
+    let first = c.first_point-first in
+    record { from = first.ensures.from; to = c.if-reach-first.false; here = first.ensures.here c.if-reach-first.false }
+
+pub last_point-last-requires : goal.last_point-last-requires
+last_point-last-requires c = (c.requires.has_reach, begins (goal.at.last_point-last-requires c).Else-reach-first)
+
+pub month_at-month-requires : goal.month_at-month-requires
+month_at-month-requires c =
+    let w = c.requires in
+    let p = begins (goal.at.month_at-month-requires c).Else-reach-first in
+    (w.0, omega (arith, w.1.least, w.1.reaches.latest, p.from, p.to))
+
+pub month_at-requires : goal.month_at-requires
+month_at-requires c =
+    let w = c.requires in
+    let p = c.last_point-last.ensures.point in
+    (w.0, omega (arith, w.1.least, w.1.reaches.latest, p.from, p.to))
+
+-- its month is not after the last one's
+order : (c : After-month_at) → c.month_at-month.result ≤ c.month_at.result
+order c = months_order c.first_point-first.ensures c.last_point-last.ensures (begins c.before.before.before) _ _ c.month_at-month.ensures.month c.month_at.ensures.month
+
+pub returns : goal.returns
+returns c =
+    are_listed c.first_point-first.ensures c.last_point-last.ensures (begins (goal.at.returns c).Else-reach-first) _ _ c.month_at-month.ensures.month c.month_at.ensures.month c.month_at.ensures.below
+
+pub first_point-first-requires : goal.first_point-first-requires
+first_point-first-requires c = c.requires.has_reach
+
+pub overflow_add-result : goal.overflow_add-result
+overflow_add-result c = omega (arith, c.month_at.ensures.below)
+
+pub overflow_sub-result : goal.overflow_sub-result
+overflow_sub-result c = omega (arith, order c)

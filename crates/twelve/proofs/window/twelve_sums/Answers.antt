@@ -1,0 +1,67 @@
+-- `twelve_sums` meets its contract: the loop keeps the sums so far, and the window at the month before the next.
+use Prim.Native.Nat.{◌-◌, ◌<◌}
+use mathlib.Core.Path.{◌≡◌, refl, sym, ap, ◌∙◌}
+use mathlib.Core.Bool.{true, true≢false}
+use native.Mathlib.Omega.{arith}
+use lib.ListN.{length, set}
+use mir.Syntax.{w64}
+use Rattle.integer.specs.Linear.{back}
+use Rattle.money.specs.Exact.{value_of, is_word}
+use Rattle.twelve.specs.Parts.{monthly_in}
+use Rattle.twelve.proofs.Windows.{Summing, summing_none, summing_fails, summing_more, summing_filled, summing_words}
+use borrow.Author.Rules.{rules}
+use borrow.Author.Tests.{not-true, not-false}
+use Rattle.twelve.proofs.window.twelve_sums.Goals as goal
+use Rattle.twelve.proofs.window.twelve_sums.Goals.{Else-not-is_word, In-loop-k}
+
+-- a month of the loop is one of those that are asked
+inside : (c : In-loop-k) → c.loop-k.k < length c.args.sums.now
+inside c = omega (arith, c.loop-k-test.true, c.loop-k.invariant.long)
+
+pub slide-window-requires : goal.slide-window-requires
+slide-window-requires c =
+    let w = c.loop-k.invariant in
+    (c.requires.days_value, ((c.requires.has_reach.0, c.requires.has_reach.1.starts), ((omega arith, omega (arith, inside (goal.at.slide-window-requires c).In-loop-k, c.requires.has_reach.1.most)), (w.at, w.small))))
+
+pub returns-then-not-is_word : goal.returns-then-not-is_word
+returns-then-not-is_word c =
+    (sym (summing_fails _ _ _ c.requires.has_reach.1 (inside (goal.at.returns-then-not-is_word c).In-loop-k) c.slide-window.ensures.sum (sym c.before.is_IsWord.ensures ∙ not-true _ c.if-not-is_word.true)), λ e. absurd (true≢false (sym e)))
+
+-- where the loop goes on, the sum is of 64 bits
+word : (c : Else-not-is_word) → is_word (value_of c.slide-window.result) ≡ true
+word c = sym c.before.is_IsWord.ensures ∙ not-false _ c.if-not-is_word.false
+
+pub loop-k-preserved : goal.loop-k-preserved
+loop-k-preserved c =
+    let slid = c.slide-window.ensures in
+    summing_more _ _ _ c.requires.has_reach.1 c.loop-k.invariant (inside (goal.at.loop-k-preserved c).In-loop-k) slid.0 slid.1 (word (goal.at.loop-k-preserved c).Else-not-is_word)
+    (ap (set c.loop-k.sums c.loop-k.k) (back w64 c.narrowed.result c.narrowed.type_inv ∙ c.narrowed.ensures))
+
+pub returns : goal.returns
+returns c =
+    let w = c.loop-k.invariant in
+    (sym (summing_words _ _ _ c.requires.has_reach.1 w (omega (arith, w.long))), λ e. summing_filled _ _ _ c.requires.has_reach.1 w (omega (arith, w.long)))
+
+pub loop-k-init : goal.loop-k-init
+loop-k-init c = summing_none _ _ _ c.requires.has_reach.1 _ refl
+
+pub overflow_add-first : goal.overflow_add-first
+overflow_add-first c = omega (arith, inside c, c.requires.has_reach.1.most)
+
+pub shape_of-sums-then-not-is_word : goal.shape_of-sums-then-not-is_word
+shape_of-sums-then-not-is_word c = c.loop-k.invariant.long
+
+pub narrowed-requires : goal.narrowed-requires
+narrowed-requires c = word c
+
+pub bounds-sums-k : goal.bounds-sums-k
+bounds-sums-k c = omega (arith, c.loop-k-test.true)
+
+pub overflow_add-k : goal.overflow_add-k
+overflow_add-k c = omega arith
+
+pub loop-k-smaller : goal.loop-k-smaller
+loop-k-smaller c = omega (arith, inside (goal.at.loop-k-smaller c).In-loop-k)
+
+pub shape_of-sums : goal.shape_of-sums
+shape_of-sums c = c.loop-k.invariant.long

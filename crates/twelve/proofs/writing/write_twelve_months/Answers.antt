@@ -1,0 +1,19 @@
+-- `write_twelve_months` meets its contract: no rows without a listed month, else one for each.
+use native.Mathlib.Omega.{arith}
+use Rattle.answers.proofs.Sized.{nothing_there}
+use Rattle.answers.proofs.Replies.{puts_if}
+use Rattle.twelve.proofs.Largest.{rows_sized, none_words}
+use borrow.Author.Rules.{rules}
+use Rattle.twelve.proofs.writing.write_twelve_months.Goals as goal
+
+pub returns-then-listed-eq0 : goal.returns-then-listed-eq0
+returns-then-listed-eq0 c =
+    let w = c.listed_months-listed.ensures in
+    puts_if (none_words w c.if-listed-eq0.true) (nothing_there _ _ (rows_sized w) c.if-listed-eq0.true)
+
+pub write_listed-requires : goal.write_listed-requires
+write_listed-requires c =
+    (c.first_days-days.ensures, ((c.requires, c.listed_months-listed.ensures), omega (arith, c.if-listed-eq0.false)))
+
+pub listed_months-listed-requires : goal.listed_months-listed-requires
+listed_months-listed-requires c = (c.first_days-days.ensures, c.requires)

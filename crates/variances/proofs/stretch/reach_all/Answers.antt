@@ -1,0 +1,19 @@
+-- `reach_all` meets its contract: four times.
+use borrow.Author.Rules.{rules}
+use native.Mathlib.Omega.{arith}
+use Rattle.variances.proofs.Reaching.{early_dates, all_reached}
+use Rattle.variances.proofs.stretch.reach_all.Goals as goal
+
+pub reach-early-requires : goal.reach-early-requires
+reach-early-requires c =
+    ((c.requires.tables.scheduled, omega arith), (record { least = omega arith; latest = omega arith; most = omega arith }, (early_dates c.requires.dated).0))
+
+pub reach-planned-requires : goal.reach-planned-requires
+reach-planned-requires c =
+    ((c.requires.tables.scheduled, omega arith), (c.reach-early.ensures.bounded, (early_dates c.requires.dated).1))
+
+pub returns : goal.returns
+returns c = (
+  c.reach.ensures.bounded,
+  all_reached c.requires.dated c.reach-early.ensures c.reach-planned.ensures c.reach-begun.ensures c.reach.ensures,
+)
