@@ -27,10 +27,10 @@ module _ {A B : Type 0} where
   flat_one f (x ∷ xs) = ap (λ (l : List B). f x ∷ l) (flat_one f xs)
 
 module _ {A B C : Type 0} where
-  pub flat_map : (row : B → List C) (f : A → B) (xs : List A) → flat_map row (map f xs) ≡ flat_map (λ x. row (f x)) xs
+  pub flat_map_map : (row : B → List C) (f : A → B) (xs : List A) → flat_map row (map f xs) ≡ flat_map (λ x. row (f x)) xs
   unfolding flat_map
-  flat_map row f [] = refl
-  flat_map row f (x ∷ xs) = ap (λ (l : List C). row (f x) ++ l) (flat_map row f xs)
+  flat_map_map row f [] = refl
+  flat_map_map row f (x ∷ xs) = ap (λ (l : List C). row (f x) ++ l) (flat_map_map row f xs)
 
   pub map_flat : (f : B → C) (row : A → List B) (xs : List A) → map f (flat_map row xs) ≡ flat_map (λ x. map f (row x)) xs
   unfolding flat_map
