@@ -1,6 +1,5 @@
 -- `gregorian::march` meets its contract.
 -- Assumes nothing.
-use borrow.Author.Rules.{rules}
 use Rattle.gregorian.proofs.MarchYear.{march_number}
 use Rattle.gregorian.proofs.march.Goals as goal
 

@@ -1,5 +1,5 @@
 -- `cumulative` meets its contract: the first shares of the magnitude in closed form, with the sign put back. Assumes nothing.
-use Rattle.std.proofs.Common.{◌≡◌, ℕ, ◌+◌, ◌*◌, ◌/◌, ◌%◌, ◌≤◌, min, nat_abs, sym, ap, ◌∙◌, subst, ⊎_elim, arith, to_z-of_z, w64, SFits, rules}
+use Rattle.std.proofs.Common.{◌≡◌, ℕ, ◌+◌, ◌*◌, ◌/◌, ◌%◌, ◌≤◌, min, nat_abs, sym, ap, ◌∙◌, subst, arith, to_z-of_z, w64, SFits}
 use Rattle.integer.specs.Linear.{linear, within, abs}
 use Rattle.integer.specs.Signs.{like, like_is, like_fits}
 use Rattle.money.proofs.Spread.{parts, parts_le, sum_like}

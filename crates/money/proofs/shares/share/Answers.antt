@@ -1,5 +1,5 @@
 -- `share` meets its contract: it divides the magnitude and puts the sign back. Assumes nothing.
-use Rattle.std.proofs.Common.{◌≡◌, ℕ, ◌≤◌, nat_abs, sym, ap, ◌∙◌, subst, ⊎_elim, arith, to_z-of_z, w64, SFits, rules}
+use Rattle.std.proofs.Common.{◌≡◌, ℕ, ◌≤◌, nat_abs, sym, ap, ◌∙◌, subst, arith, to_z-of_z, w64, SFits}
 use Rattle.integer.specs.Linear.{linear, within, abs}
 use Rattle.integer.specs.Signs.{like, like_is, like_fits}
 use Rattle.money.proofs.Spread.{part, part_le, part_then, part_else, share_like}

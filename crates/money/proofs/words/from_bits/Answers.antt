@@ -1,5 +1,5 @@
 -- `from_bits` meets its contract: below the sign bit the number itself, else how far it is behind 2^64. Assumes nothing.
-use Rattle.std.proofs.Common.{◌-◌, negsuc, arith, w64, to_z, rules, le-ltb}
+use Rattle.std.proofs.Common.{◌-◌, negsuc, arith, w64, to_z, le-ltb}
 use Rattle.integer.specs.Linear.{linear, within, dif, low}
 use Rattle.money.proofs.words.from_bits.Goals as goal
 

@@ -1,5 +1,5 @@
 -- `with_sign` meets its contract: what it asks says that the sign and the magnitude fit. Assumes nothing.
-use Rattle.std.proofs.Common.{◌-◌, negsuc, w64, to_z, rules}
+use Rattle.std.proofs.Common.{◌-◌, negsuc, w64, to_z}
 use Rattle.integer.specs.Linear.{linear, within, dif}
 use Rattle.integer.specs.Signs.{when_neg, when_pos}
 use Rattle.money.proofs.words.with_sign.Goals as goal

@@ -2,7 +2,6 @@
 use Prim.Native.Nat.{ℕ, ◌+◌, ◌*◌, ◌/◌, ◌%◌, ◌<◌}
 use native.Mathlib.Nat.{div-add-mod', mod-lt}
 use native.Mathlib.Omega.{arith}
-use borrow.Author.Rules.{rules}
 use Rattle.wide.specs.Words.{half}
 use Rattle.wide.proofs.Quotients.{two_digits, digit_short}
 use Rattle.wide.proofs.division.by_half.Goals as goal

@@ -3,7 +3,6 @@
 use mathlib.Core.Path.{◌∙◌}
 use Prim.Native.Nat.{◌+◌, ◌*◌, ◌<◌}
 use native.Mathlib.Omega.{arith}
-use borrow.Author.Rules.{rules}
 use Rattle.wide.proofs.Halves.{high_half}
 use Rattle.wide.proofs.Quotients.{large, top_below, same_quotient, two_digits}
 use Rattle.wide.proofs.division.by_word.Goals as goal

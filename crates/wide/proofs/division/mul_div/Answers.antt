@@ -1,7 +1,6 @@
 -- `mul_div` meets its contract, by the size of the product's high word. Assumes nothing.
 use mathlib.Core.Path.{◌≡◌, ◌∙◌}
 use native.Mathlib.Omega.{arith}
-use borrow.Author.Rules.{rules}
 use Prim.Native.Nat.{◌+◌, ◌-◌, ◌*◌, ◌/◌, min}
 use Rattle.wide.specs.Words.{word}
 use Rattle.wide.proofs.Quotients.{none, one_word, too_large, fitting}

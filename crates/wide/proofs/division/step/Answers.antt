@@ -3,7 +3,7 @@ use Prim.Native.Nat.{◌+◌, ◌*◌, ◌/◌, ◌%◌, ◌≤◌, ◌<◌}
 use native.Mathlib.Omega.{arith}
 use Rattle.wide.specs.Words.{half, word, Divided}
 use Rattle.wide.proofs.Halves.{short}
-use Rattle.wide.proofs.Digits.{Guess, taken, remains, first_fits, first_guess, positive, next_guess, last_guess}
+use Rattle.wide.proofs.Digits.{taken, remains, first_fits, first_guess, positive, next_guess, last_guess}
 use Rattle.wide.proofs.division.step.Goals as goal
 use Rattle.wide.proofs.division.step.Goals.{After-least-q, After-loop-left, At-loop-left}
 

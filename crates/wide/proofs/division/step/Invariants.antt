@@ -1,9 +1,5 @@
 -- `step` meets its contract: the guess is never too small, and each turn lowers one that is too large. Assumes nothing.
-use Prim.Native.Nat.{◌+◌, ◌*◌, ◌/◌, ◌%◌, ◌≤◌, ◌<◌}
-use native.Mathlib.Omega.{arith}
-use Rattle.wide.specs.Words.{half, word, Divided}
-use Rattle.wide.proofs.Halves.{short}
-use Rattle.wide.proofs.Digits.{Guess, taken, remains, first_fits, first_guess, positive, next_guess, last_guess}
+use Rattle.wide.proofs.Digits.{Guess}
 use Rattle.wide.proofs.division.step.Given as goal
 
 abbrev pub invariant-loop-left : goal.invariant-loop-left

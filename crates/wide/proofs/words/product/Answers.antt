@@ -1,7 +1,6 @@
 -- `product` meets its contract: no product of halves is too large, and together they are the whole product. Assumes nothing.
 use mathlib.Core.Path.{refl}
 use native.Mathlib.Omega.{arith}
-use borrow.Author.Rules.{rules}
 use Rattle.wide.proofs.Halves.{shorts, joined, Short}
 use Rattle.wide.proofs.words.product.Goals as goal
 use Rattle.wide.proofs.words.product.Goals.{Start}
