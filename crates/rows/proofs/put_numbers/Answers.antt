@@ -18,7 +18,7 @@ pub loop-i-preserved : goal.loop-i-preserved
 loop-i-preserved c =
     let l = c.loop-i in
     let figures = c.args.figures.now in
-    mapped_more l.invariant (pos 0) (omega arith) (c.to_bits.ensures ∙ ap bits (back w64 (get_or figures l.i (pos 0)) c.x-1.given))
+    mapped_more l.invariant (pos 0) (omega arith) (c.to_bits.ensures ∙ ap bits (back w64 (get_or figures l.i (pos 0)) (search rules)))
 
 pub shape_of-out : goal.shape_of-out
 shape_of-out c = c.loop-i.invariant.long ∙ sym c.requires
