@@ -6,7 +6,7 @@ use Rattle.descent.proofs.outline.Goals as goal
 
 pub down-requires : goal.down-requires
 down-requires c =
-    ready_first c.args.parents.now _ _ c.link.ensures _ (c.first-1.given ∙ c.requires.0) (c.next-1.given ∙ c.requires.1) c.requires.2
+    ready_first c.args.parents.now _ _ c.link.ensures _ (c.link.auto.first ∙ c.requires.0) (c.link.auto.next ∙ c.requires.1) c.requires.2
 
 pub returns : goal.returns
 returns c =
