@@ -1,7 +1,5 @@
 -- `down` meets its contract: one branch a turn.
-use Prim.Native.Nat.{◌+◌, ◌*◌, ◌≤◌}
 use native.Mathlib.Omega.{arith}
-use lib.ListN.{length}
 use Rattle.descent.proofs.Turns.{nothing, room_here, ready_next, shorter, going_first, going_next, going_last}
 use Rattle.descent.proofs.+down.Goals as goal
 

@@ -1,6 +1,5 @@
 -- `outline` meets its contract: the columns are the tree's, and the lines below the place of the tops are the outline's.
 use mathlib.Core.Path.{◌∙◌}
-use borrow.Author.Rules.{rules}
 use Rattle.descent.proofs.Whole.{ready_first, stands}
 use Rattle.descent.proofs.outline.Goals as goal
 
