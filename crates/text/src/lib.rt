@@ -12,7 +12,7 @@ pub fn put(out: &mut [u8], at: usize, bytes: &[u8]) -> usize
     ensures value { result ≡ at + length bytes.now }
     ensures out_after { take result out.new ≡ take at out.old ++ bytes.now }
 {
-    bytes::copy(bytes, &mut out[at..]);
+    out[at..at + bytes.len()].copy_from_slice(bytes);
     at + bytes.len()
 }
 

@@ -8,7 +8,6 @@ use native.Mathlib.Omega.{arith}
 use lib.Dec.{lit<}
 use lib.IntN.{ℤ}
 use mir.Facts.{to_z-of_z}
-use borrow.Author.Tests.{not-true, not-false}
 use Rattle.gregorian.specs.Count.{counted}
 use Rattle.gregorian.proofs.Counts.{tested, room}
 use Rattle.dates.specs.Date.{is_year, from_ymd}
@@ -17,16 +16,16 @@ use Rattle.computus.proofs.Meeus.{meeus, meeus_is, easter_year}
 use Rattle.computus.proofs.easter.Goals as goal
 use Rattle.computus.proofs.easter.Goals.{Else-not-is_year}
 
-is_year : (c : Else-not-is_year) → is_year c.args.year ≡ true
-is_year c = tested is_year c.ranges.year c.is_year.ensures (not-false _ c.if-not-is_year.false)
+is_year_lem : (c : Else-not-is_year) → is_year c.args.year ≡ true
+is_year_lem c = tested is_year c.ranges.year c.is_year.ensures c.if-not-is_year.false
 
 pub returns-then-not-is_year : goal.returns-then-not-is_year
 unfolding easter_of
-returns-then-not-is_year c = rw (tested is_year c.ranges.year c.is_year.ensures (not-true _ c.if-not-is_year.true))
+returns-then-not-is_year c = rw (tested is_year c.ranges.year c.is_year.ensures c.if-not-is_year.true)
 
 pub counted_from-y-requires : goal.counted_from-y-requires
 counted_from-y-requires c =
-    rw (to_z-of_z c.ranges.year) (room 5700000 5690001 5709999 _ (lit< tt) (lit< tt) (easter_year _ (is_year (goal.at.counted_from-y-requires c).Else-not-is_year)))
+    rw (to_z-of_z c.ranges.year) (room 5700000 5690001 5709999 _ (lit< tt) (lit< tt) (easter_year _ (is_year_lem (goal.at.counted_from-y-requires c).Else-not-is_year)))
 
 pub overflow_sub-l-2 : goal.overflow_sub-l-2
 overflow_sub-l-2 c =
@@ -48,4 +47,4 @@ returns c =
     let f = to_z-of_z c.ranges.year in
     c.from_ymd.ensures ∙ ap (λ (v : ℤ). from_ymd v (meeus c.counted_from-y.result / 31) (meeus c.counted_from-y.result % 31 + 1)) f
     ∙ ap (λ (y : ℕ). from_ymd z (meeus y / 31) (meeus y % 31 + 1)) (c.counted_from-y.ensures ∙ ap (counted 5700000) f)
-    ∙ meeus_is z (is_year (goal.at.returns c).Else-not-is_year)
+    ∙ meeus_is z (is_year_lem (goal.at.returns c).Else-not-is_year)

@@ -4,8 +4,8 @@ use mathlib.Core.Path.{◌≡◌, ap, sym, ◌∙◌}
 use mathlib.Core.Bool.{Bool, true, false}
 use native.Mathlib.Omega.{arith}
 use lib.Dec.{lit<}
+use mir.Syntax.{w32}
 use mir.Facts.{to_z-of_z}
-use borrow.Author.Tests.{not-true, not-false}
 use Rattle.gregorian.specs.Calendar.{is_date, day_number}
 use Rattle.gregorian.proofs.Laws.{valid}
 use Rattle.dates.specs.declared.Day.TheVariants.{At}
@@ -17,8 +17,8 @@ use Rattle.dates.proofs.from_ymd.Goals as goal
 use Rattle.dates.proofs.from_ymd.Goals.{After-counted_from-y, After-is_date, After-number-n, Else-not-is_year}
 
 -- what the calls answer
-is_year : (c : Else-not-is_year) → is_year c.args.year ≡ true
-is_year c = tested is_year c.ranges.year c.is_year.ensures (not-false _ c.if-not-is_year.false)
+is_year_lem : (c : Else-not-is_year) → is_year c.args.year ≡ true
+is_year_lem c = tested is_year c.ranges.year c.is_year.ensures c.if-not-is_year.false
 
 count : (c : After-counted_from-y) → c.counted_from-y.result ≡ year_count c.args.year
 count c = c.counted_from-y.ensures ∙ ap (counted 10000) (to_z-of_z c.ranges.year)
@@ -29,21 +29,22 @@ date_test c b e = rw (← count c.before) (sym c.is_date.ensures ∙ e)
 
 pub returns-then-not-is_year : goal.returns-then-not-is_year
 unfolding from_ymd
-returns-then-not-is_year c = rw (tested is_year c.ranges.year c.is_year.ensures (not-true _ c.if-not-is_year.true))
+returns-then-not-is_year c = rw (tested is_year c.ranges.year c.is_year.ensures c.if-not-is_year.true)
 
 pub counted_from-y-requires : goal.counted_from-y-requires
 counted_from-y-requires c =
-    rw (to_z-of_z c.ranges.year) (room 10000 1 19999 _ (lit< tt) (lit< tt) (year_within _ (is_year (goal.at.counted_from-y-requires c).Else-not-is_year)))
+    rw (to_z-of_z c.ranges.year) (room 10000 1 19999 _ (lit< tt) (lit< tt) (year_within _ (is_year_lem (goal.at.counted_from-y-requires c).Else-not-is_year)))
 
 pub returns-then-not-is_date : goal.returns-then-not-is_date
 unfolding from_ymd
 returns-then-not-is_date c =
-    rw (is_year (goal.at.returns-then-not-is_date c).Else-not-is_year, date_test (goal.at.returns-then-not-is_date c).After-is_date false (not-true _ c.if-not-is_date.true))
+    rw (is_year_lem (goal.at.returns-then-not-is_date c).Else-not-is_year, date_test (goal.at.returns-then-not-is_date c).After-is_date false c.if-not-is_date.true)
 
 pub number-n-requires : goal.number-n-requires
 number-n-requires c =
-    let w = year_within _ (is_year (goal.at.number-n-requires c).Else-not-is_year) in
-    rw (count (goal.at.number-n-requires c).After-counted_from-y) ((w.from, omega (arith, w.upto)), date_test (goal.at.number-n-requires c).After-is_date true (not-false _ c.if-not-is_date.false))
+    let w = year_within _ (is_year_lem (goal.at.number-n-requires c).Else-not-is_year) in
+    rw (count (goal.at.number-n-requires c).After-counted_from-y)
+    (record { le_year = (w.from, omega (arith, w.upto)); day_value = date_test (goal.at.number-n-requires c).After-is_date true c.if-not-is_date.false })
 
 number : (c : After-number-n) → c.number-n.result ≡
     day_number (year_count c.args.year) c.args.month c.args.day
@@ -51,12 +52,12 @@ number c = rw (← count c.before.before.before) c.number-n.ensures
 
 pub signed_from-z-requires : goal.signed_from-z-requires
 signed_from-z-requires c =
-    let w = year_within _ (is_year (goal.at.signed_from-z-requires c).Else-not-is_year) in
-    let b = number_within _ _ _ w.from w.upto (valid _ _ _ (date_test (goal.at.signed_from-z-requires c).After-is_date true (not-false _ c.if-not-is_date.false))) in
+    let w = year_within _ (is_year_lem (goal.at.signed_from-z-requires c).Else-not-is_year) in
+    let b = number_within _ _ _ w.from w.upto (valid _ _ _ (date_test (goal.at.signed_from-z-requires c).After-is_date true c.if-not-is_date.false)) in
     rw (number (goal.at.signed_from-z-requires c).After-number-n) (lit< tt, omega (arith, b.1))
 
 pub returns : goal.returns
 unfolding from_ymd
 returns c =
-    rw (is_year (goal.at.returns c).Else-not-is_year, date_test (goal.at.returns c).After-is_date true (not-false _ c.if-not-is_date.false), epoch_is)
-    (ap At (to_z-of_z (record { sfits = c.signed_from-z.type_inv }) ∙ c.signed_from-z.ensures ∙ ap (signed 4371953) (number (goal.at.returns c).After-number-n)))
+    rw (is_year_lem (goal.at.returns c).Else-not-is_year, date_test (goal.at.returns c).After-is_date true c.if-not-is_date.false, epoch_is)
+    (ap At (to_z-of_z {w = w32} (record { sfits = c.signed_from-z.type_inv }) ∙ c.signed_from-z.ensures ∙ ap (signed 4371953) (number (goal.at.returns c).After-number-n)))

@@ -5,7 +5,6 @@ use mathlib.Core.Path.{◌≡◌, ap, ◌∙◌}
 use mathlib.Core.Bool.{true}
 use native.Mathlib.Omega.{arith}
 use mir.Facts.{to_z-of_z}
-use borrow.Author.Tests.{not-true, not-false}
 use Rattle.gregorian.specs.Calendar.{weekday_number}
 use Rattle.dates.specs.declared.WeekdayOf.TheVariants.{On}
 use Rattle.dates.specs.Week.{named}
@@ -17,14 +16,14 @@ use Rattle.dates.proofs.weekday.Goals.{After-count_day-n, Else-not-is_day}
 
 -- what the calls answer
 is_day_lem : (c : Else-not-is_day) → is_day c.args.days ≡ true
-is_day_lem c = tested is_day c.ranges.days c.is_day.ensures (not-false _ c.if-not-is_day.false)
+is_day_lem c = tested is_day c.ranges.days c.is_day.ensures c.if-not-is_day.false
 
 count : (c : After-count_day-n) → c.count_day-n.result ≡ day_count c.args.days
 count c = c.count_day-n.ensures ∙ ap day_count (to_z-of_z c.ranges.days)
 
 pub returns-then-not-is_day : goal.returns-then-not-is_day
 unfolding weekday_of
-returns-then-not-is_day c = rw (tested is_day c.ranges.days c.is_day.ensures (not-true _ c.if-not-is_day.true))
+returns-then-not-is_day c = rw (tested is_day c.ranges.days c.is_day.ensures c.if-not-is_day.true)
 
 pub count_day-n-requires : goal.count_day-n-requires
 count_day-n-requires c = ap is_day (to_z-of_z c.ranges.days) ∙ is_day_lem (goal.at.count_day-n-requires c).Else-not-is_day

@@ -5,8 +5,8 @@ use mathlib.Core.Bool.{true}
 use native.Mathlib.Omega.{arith}
 use lib.IntN.{ℤ}
 use lib.Dec.{lit<}
+use mir.Syntax.{w32}
 use mir.Facts.{to_z-of_z}
-use borrow.Author.Tests.{not-true, not-false}
 use Rattle.gregorian.specs.declared.Civil.{Civil}
 use Rattle.gregorian.specs.Calendar.{civil}
 use Rattle.dates.specs.declared.Date.TheVariants.{Of}
@@ -18,14 +18,14 @@ use Rattle.dates.proofs.ymd.Goals.{After-civil_of-x, After-count_day-n, Else-not
 
 -- what the calls answer
 is_day_lem : (c : Else-not-is_day) → is_day c.args.days ≡ true
-is_day_lem c = tested is_day c.ranges.days c.is_day.ensures (not-false _ c.if-not-is_day.false)
+is_day_lem c = tested is_day c.ranges.days c.is_day.ensures c.if-not-is_day.false
 
 count : (c : After-count_day-n) → c.count_day-n.result ≡ day_count c.args.days
 count c = c.count_day-n.ensures ∙ ap day_count (to_z-of_z c.ranges.days)
 
 pub returns-then-not-is_day : goal.returns-then-not-is_day
 unfolding ymd_of
-returns-then-not-is_day c = rw (tested is_day c.ranges.days c.is_day.ensures (not-true _ c.if-not-is_day.true))
+returns-then-not-is_day c = rw (tested is_day c.ranges.days c.is_day.ensures c.if-not-is_day.true)
 
 pub count_day-n-requires : goal.count_day-n-requires
 count_day-n-requires c = ap is_day (to_z-of_z c.ranges.days) ∙ is_day_lem (goal.at.count_day-n-requires c).Else-not-is_day
@@ -48,4 +48,4 @@ unfolding ymd_of
 returns c =
     let x = c.civil_of-x.result in
     rw (is_day_lem (goal.at.returns c).Else-not-is_day)
-    (ap (λ (y : ℤ). Of y x.month x.day) (to_z-of_z (record { sfits = c.signed_from-y.type_inv }) ∙ c.signed_from-y.ensures) ∙ ap date_of (date (goal.at.returns c).After-civil_of-x))
+    (ap (λ (y : ℤ). Of y x.month x.day) (to_z-of_z {w = w32} (record { sfits = c.signed_from-y.type_inv }) ∙ c.signed_from-y.ensures) ∙ ap date_of (date (goal.at.returns c).After-civil_of-x))

@@ -15,7 +15,10 @@ unfolding of_bits
 between c = middle c.args.x (passes _ c.well_formed.0.1) c.if-x.false c.if-x-2.true
 
 pub truncating_f64_to_u64-requires : goal.truncating_f64_to_u64-requires
-truncating_f64_to_u64-requires c = unfold of_bits in twice_range c.args.x (between (goal.at.truncating_f64_to_u64-requires c).Then-x-2)
+truncating_f64_to_u64-requires c =
+    unfold of_bits in
+    let r = twice_range c.args.x (between (goal.at.truncating_f64_to_u64-requires c).Then-x-2) in
+    record { lower_bound = r.0; upper_bound = r.1 }
 
 pub overflow_add-result : goal.overflow_add-result
 overflow_add-result c = unfold of_bits in omega (arith, twice_fits c.args.x (between (goal.at.overflow_add-result c).Then-x-2), c.truncating_f64_to_u64.ensures)

@@ -17,32 +17,27 @@ use Rattle.holidays.proofs.is_by_easter.Goals as goal
 use Rattle.holidays.proofs.is_by_easter.Goals.{In-At}
 
 -- Easter Sunday e, and the code's distance from it
-module _ (c : tie.After-known-told) where
-  abbrev e : ℤ
-  e = c.before.sunday.given.0.0
-
-  abbrev days : ℤ
-  days = c.before.before.before.before.args.days
-
-  sunday : easter_of c.before.before.before.before.args.year ≡ At e
-  sunday =
-      let s = c.before.before.before in
-      ap easter_of (sym (to_z-of_z s.before.ranges.year)) ∙ sym s.easter.ensures ∙ c.before.sunday.given.1
-
-  in_range_lem : is_day e ≡ true
-  in_range_lem = easter_day _ e sunday
-
+module _ (days e : ℤ) (day : is_day days ≡ true) (sunday : is_day e ≡ true) where
   distance : to_z w32 (of_z w32 days) -ℤ to_z w32 (of_z w32 e) ≡ days -ℤ e
-  distance = rw (to_z-of_z c.before.before.before.before.ranges.days, to_z-of_z (day_fits e in_range_lem))
+  distance = rw (to_z-of_z (day_fits days day), to_z-of_z (day_fits e sunday))
+
+sunday : (c : In-At) → easter_of c.args.year ≡ At c.in-At.e
+sunday c = ap easter_of (sym (to_z-of_z c.ranges.year)) ∙ sym c.easter-sunday.ensures ∙ c.in-At.is
+
+in_range_lem : (c : In-At) → is_day c.in-At.e ≡ true
+in_range_lem c = easter_day _ c.in-At.e (sunday c)
 
 pub overflow_sub-days : goal.overflow_sub-days
-overflow_sub-days c = rw (distance c) (distance_fits _ _ c.requires (in_range_lem c))
+overflow_sub-days c =
+    let i = in_range_lem (goal.at.overflow_sub-days c).In-At in
+    rw (distance _ _ c.requires i) (distance_fits _ _ c.requires i)
 
 pub returns-in-At : goal.returns-in-At
 unfolding by_easter
 returns-in-At c =
-    let f = distance_fits _ _ c.requires (in_range_lem (goal.at.returns-in-At c).In-At) in
-    rw (sunday (goal.at.returns-in-At c).In-At) (c.is_movable.ensures ∙ ap is_movable (ap (λ (v : ℤ). to_z w32 (of_z w32 v)) (distance (goal.at.returns-in-At c).In-At) ∙ to_z-of_z f))
+    let i = in_range_lem (goal.at.returns-in-At c).In-At in
+    let f = distance_fits _ _ c.requires i in
+    rw (sunday (goal.at.returns-in-At c).In-At) (c.is_movable.ensures ∙ ap is_movable (ap (λ (v : ℤ). to_z w32 (of_z w32 v)) (distance _ _ c.requires i) ∙ to_z-of_z f))
 
 pub returns-in-Nothing : goal.returns-in-Nothing
 unfolding by_easter

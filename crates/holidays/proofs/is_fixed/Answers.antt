@@ -2,7 +2,6 @@
 -- Assumes nothing.
 use Prim.Native.Nat.{ℕ, ◌-◌, ◌≤◌}
 use mathlib.Core.Path.{◌≡◌, refl, sym, ◌∙◌, ap}
-use mathlib.Core.Logic.{⊎_elim}
 use mathlib.Core.Bool.{true, false}
 use native.Mathlib.Omega.{arith}
 use lib.ListN.{drop, get_or}
@@ -12,7 +11,7 @@ use Rattle.holidays.specs.Holiday.{on, fixed_days, is_on, is_fixed}
 use Rattle.lists.specs.Lists.{any}
 use Rattle.lists.proofs.Search.{hit, miss}
 use Rattle.holidays.proofs.is_fixed.Goals as goal
-use Rattle.holidays.proofs.is_fixed.Goals.{else-p-month, then-p-month}
+use Rattle.holidays.proofs.is_fixed.Goals.{else-p-month, then-p-month+else-p-day}
 
 module _ (m d : ℕ) (x : MonthDay) where
   this : x.month ≡ m → x.day ≡ d → is_on m d x ≡ true
@@ -49,7 +48,7 @@ loop-i-preserved c =
     let a = c.args in
     let x = get_or fixed_days c.loop-i.i (on 0 0) in
     let next = miss (is_on a.month a.day) fixed_days c.loop-i.i c.loop-i-test.true (on 0 0) in
-    elim c.if-p-month.branch [ then-p-month w ↦ (omega arith, next (other_day a.month a.day x w.0.taken w.2.left) ∙ c.loop-i.invariant.1) | else-p-month w ↦ (omega arith, next (other_month a.month a.day x w.left) ∙ c.loop-i.invariant.1) ]
+    elim c.if-p-month.branch [ then-p-month+else-p-day w ↦ (omega arith, next (other_day a.month a.day x w.if-p-month.true w.if-p-day.false) ∙ c.loop-i.invariant.1) | else-p-month w ↦ (omega arith, next (other_month a.month a.day x w.if-p-month.false) ∙ c.loop-i.invariant.1) ]
 
 pub returns : goal.returns
 unfolding any

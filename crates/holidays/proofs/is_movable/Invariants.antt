@@ -17,7 +17,7 @@ use Rattle.holidays.proofs.is_movable.Given as goal
 
 abbrev pub invariant-loop-i : goal.invariant-loop-i
 invariant-loop-i l =
-    (l.i ≤ 4) × (any (same (to_z w32 l.distance)) (drop l.i distances) ≡ is_movable (to_z w32 l.distance))
+    (l.i ≤ 4) × (any (same (l.distance)) (drop l.i distances) ≡ is_movable (l.distance))
 
 abbrev pub decreases-loop-i : goal.decreases-loop-i
 decreases-loop-i l = 4 - l.i

@@ -6,7 +6,7 @@ use Rattle.fields.proofs.kinds.ranged.Goals as goal
 
 pub returns-then-fits : goal.returns-then-fits
 returns-then-fits c =
-    rw c.in-At.is (ranged_few _ _ _ c.short-n.ensures _ _ _ _ (c.before.fits2.ensures c.if-fits.true))
+    rw c.in-At.is (ranged_few _ _ _ c.short-n.ensures _ _ _ _ (c.fits.ensures c.if-fits.true))
 
 pub returns-else-fits : goal.returns-else-fits
 unfolding ranged

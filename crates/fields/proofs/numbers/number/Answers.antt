@@ -7,7 +7,7 @@ use Rattle.fields.proofs.Groups.{Reading, Due, begin, one_byte, more_bytes, ends
 use Rattle.fields.proofs.Groups.{last, last_fits, goes_on, goes_on_fits, wrong_zero, right_more, right_tenth, wrong_tenth}
 use Rattle.format.specs.declared.Num.TheVariants.{Value}
 use Rattle.fields.proofs.numbers.number.Goals as goal
-use Rattle.fields.proofs.numbers.number.Goals.{After-wide-b, Else-b-lt128, Then-tenth-eq1}
+use Rattle.fields.proofs.numbers.number.Goals.{After-wide-b, Then-tenth-eq1}
 
 pub returns-then-book-place : goal.returns-then-book-place
 returns-then-book-place c = ends (begin _ _) (omega arith) c.if-book-place.true
@@ -54,35 +54,38 @@ pub returns-then-b-lt128 : goal.returns-then-b-lt128
 returns-then-b-lt128 c = last (due (goal.at.returns-then-b-lt128 c).After-wide-b c.if-b-eq0.false) c.if-b-lt128.true
 
 -- the byte that was read, where others follow
-follows : (c : Else-b-lt128) →
+follows : (c : After-wide-b) → 128 ≤ c.wide-b.result →
     let args = c.args in
     Due args.book.now args.place c.loop-left.at c.loop-left.left c.loop-left.scale c.loop-left.sum c.wide-b.result
-follows c = due c.before (λ e. omega arith)
-
-byte : (c : Else-b-lt128) → c.wide-b.result < 256
-byte c =
-    omega (arith, c.wide-b.ensures, c.shared_slice_known-in-loop-left-1.given c.loop-left.at)
+follows c h = due c (λ e. omega arith)
 
 -- what the code computes fits
 fits :
-    (c : Else-b-lt128) →
+    (c : After-wide-b) → 128 ≤ c.wide-b.result → c.wide-b.result < 256 →
     let l = c.loop-left in
     (l.scale * 128 < 2 ^ 64) × (l.sum + l.scale * (c.wide-b.result - 128) < l.scale * 128)
-fits c = goes_on_fits (follows c) c.if-b-lt128.false (byte c)
+fits c h b = goes_on_fits (follows c h) h b
 
 pub overflow_mul-sum : goal.overflow_mul-sum
-overflow_mul-sum c = omega (arith, fits (goal.at.overflow_mul-sum c).Else-b-lt128)
+overflow_mul-sum c =
+    let byte : c.wide-b.result < 256 = omega (arith, c.wide-b.ensures, c.type_inv.book c.loop-left.at) in
+    omega (arith, fits (goal.at.overflow_mul-sum c).After-wide-b c.if-b-lt128.false byte)
 
 pub overflow_add-sum : goal.overflow_add-sum
-overflow_add-sum c = omega (arith, fits (goal.at.overflow_add-sum c).Else-b-lt128)
+overflow_add-sum c =
+    let byte : c.wide-b.result < 256 = omega (arith, c.wide-b.ensures, c.type_inv.book c.loop-left.at) in
+    omega (arith, fits (goal.at.overflow_add-sum c).After-wide-b c.if-b-lt128.false byte)
 
 pub overflow_mul-scale : goal.overflow_mul-scale
-overflow_mul-scale c = omega (arith, fits (goal.at.overflow_mul-scale c).Else-b-lt128)
+overflow_mul-scale c =
+    let byte : c.wide-b.result < 256 = omega (arith, c.wide-b.ensures, c.type_inv.book c.loop-left.at) in
+    omega (arith, fits (goal.at.overflow_mul-scale c).After-wide-b c.if-b-lt128.false byte)
 
 pub loop-left-preserved : goal.loop-left-preserved
 loop-left-preserved c =
     let l = c.loop-left in
-    (goes_on (follows (goal.at.loop-left-preserved c).Else-b-lt128) c.if-b-lt128.false (byte (goal.at.loop-left-preserved c).Else-b-lt128), omega (arith, l.invariant.1, c.loop-left-test.true))
+    let byte : c.wide-b.result < 256 = omega (arith, c.wide-b.ensures, c.type_inv.book l.at) in
+    (goes_on (follows (goal.at.loop-left-preserved c).After-wide-b c.if-b-lt128.false) c.if-b-lt128.false byte, omega (arith, l.invariant.1, c.loop-left-test.true))
 
 pub returns-then-book-at-2 : goal.returns-then-book-at-2
 returns-then-book-at-2 c = let l = c.loop-left in ends l.invariant.0 (omega (arith, l.invariant.1)) c.if-book-at-2.true

@@ -8,7 +8,6 @@ use lib.Dec.{eqb}
 use lib.ListN.{get_or}
 use borrow.Author.Rules.{rules}
 use Rattle.fields.specs.Optional.{number_option}
-use Rattle.format.specs.Book as book
 use Rattle.format.specs.Field.{index}
 use Rattle.format.specs.Codec.{O}
 use Rattle.format.specs.Format.{is_new, budget}
@@ -17,9 +16,6 @@ use Rattle.sections.proofs.Lists.{Going, going_none, going_more, going_end}
 use Rattle.sections.proofs.Marks.{Small, Marked, none_marked, one_marked, place_below, index_small, budget_small}
 use Rattle.sections.proofs.budgets.read_budgets.Goals as goal
 use Rattle.sections.proofs.budgets.read_budgets.Goals.{After-mark_of-j, After-mark_of-k}
-
-abbrev naming : List (Option ℕ) → book.Budget → List (Option ℕ)
-naming before b = b.activity ∷ before
 
 pub loop-i-init : goal.loop-i-init
 loop-i-init c = ([], (going_none _ _ _ _ _ _, none_marked))

@@ -19,7 +19,7 @@ use Rattle.sections.proofs.budgets.read_budgets.Given as goal
 
 abbrev pub invariant-loop-i : goal.invariant-loop-i
 invariant-loop-i l =
-    (before : List (Option ℕ)) × (Going (budget l.activities) naming l.fn.bytes l.count [] l.first l.i before l.next × Marked l.marks before)
+    (before : List (Option ℕ)) × (Going (budget l.activities) (λ (before : List (Option ℕ)) (b : book.Budget). b.activity ∷ before) l.book l.count [] l.first l.i before l.next × Marked l.marks before)
 
 abbrev pub decreases-loop-i : goal.decreases-loop-i
 decreases-loop-i l = l.count - l.i

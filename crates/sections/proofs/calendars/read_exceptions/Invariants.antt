@@ -9,7 +9,7 @@ use Rattle.sections.proofs.calendars.read_exceptions.Given as goal
 
 abbrev pub invariant-loop-i : goal.invariant-loop-i
 invariant-loop-i l =
-    Going exception (λ (b : ℕ) (e : book.Exception). e.day) l.fn.bytes l.count 0 l.first l.i l.before l.next
+    Going exception (λ (b : ℕ) (e : book.Exception). e.day) l.book l.count 0 l.first l.i l.before l.next
 
 abbrev pub decreases-loop-i : goal.decreases-loop-i
 decreases-loop-i l = l.count - l.i

@@ -11,8 +11,7 @@ use Rattle.book.specs.declared.layout.Layout.{Layout}
 use Rattle.book.specs.Layout.{book_of}
 use Rattle.report.specs.Status.{asked_at}
 use borrow.Author.Rules.{rules}
-use Rattle.report.proofs.asked_date.Statement.{statement}
-use Rattle.report.proofs.asked_date.Tie as tie
+use Rattle.report.proofs.asked_date.Goals as goal
 
 -- the content's data date is what the header has
 dated :
@@ -21,16 +20,12 @@ dated :
 unfolding book_of
 dated s layout e = ap (λ (p : Book × Pos). asked_at p.0.data_date) (sym e)
 
-returns : tie.Need-returns
-returns c =
-    let layout = c.before.before.before.before.read-layout in
-    sym (dated _ layout.result layout.ensures.0 ∙ ap (λ (d : OptionalNumber). asked_at (number_option d)) c.before.date.given.1)
+pub returns-in-Present : goal.returns-in-Present
+returns-in-Present c =
+    let layout = c.read_layout-layout in
+    sym (dated _ layout.result layout.ensures.0 ∙ ap (λ (d : OptionalNumber). asked_at (number_option d)) c.in-Present.is)
 
-returns_2 : tie.Need-returns-2
-returns_2 c =
-    let layout = c.before.before.before.read-layout in
-    sym (dated _ layout.result layout.ensures.0 ∙ ap (λ (d : OptionalNumber). asked_at (number_option d)) c.enum_told.given.1)
-
-pub asked_date_spec : {M : Type 1} → statement M
-asked_date_spec =
-    tie.close (tie.spec (λ c κs. search rules) (λ c. search rules) (λ c. search rules) returns returns_2)
+pub returns-in-Absent : goal.returns-in-Absent
+returns-in-Absent c =
+    let layout = c.read_layout-layout in
+    sym (dated _ layout.result layout.ensures.0 ∙ ap (λ (d : OptionalNumber). asked_at (number_option d)) c.in-Absent.is)

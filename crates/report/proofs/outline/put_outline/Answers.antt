@@ -1,0 +1,30 @@
+-- `put_outline` meets its contract: the rows that the call leaves, or the refusal of the book. Assumes nothing.
+use native.Mathlib.Omega.{arith}
+use mathlib.Core.Path.{◌∙◌}
+use borrow.Author.Rules.{rules}
+use Rattle.format.specs.Bytes.{Bytes}
+use Rattle.report.proofs.Calls.{outline_few, outline_room, outline_lines_lem, outline_refused}
+use Rattle.report.proofs.outline.put_outline.Goals as goal
+
+pub put_outline_rows-requires : goal.put_outline_rows-requires
+put_outline_rows-requires c =
+    let bytes : Bytes c.args.book.now = λ i. omega (arith, c.type_inv.book i) in
+    let asked = c.asked_date-day.ensures in (
+      outline_room _ bytes asked c.outline-reply.ensures c.in-Accepted.is (search rules),
+      omega (arith, outline_few _ bytes asked c.outline-reply.ensures c.in-Accepted.is, c.requires),
+    )
+
+pub returns-in-Accepted : goal.returns-in-Accepted
+returns-in-Accepted c =
+    let bytes : Bytes c.args.book.now = λ i. omega (arith, c.type_inv.book i) in
+    let asked = c.asked_date-day.ensures in record {
+      upper_bound = omega (arith, c.put_outline_rows.ensures.upper_bound, outline_few _ bytes asked c.outline-reply.ensures c.in-Accepted.is);
+      out_after = c.put_outline_rows.ensures.out_after ∙ outline_lines_lem _ bytes asked c.outline-reply.ensures c.in-Accepted.is;
+    }
+
+pub returns-in-Refused : goal.returns-in-Refused
+returns-in-Refused c =
+    record {
+      upper_bound = search rules;
+      out_after = c.put_refusal.ensures.out_after ∙ outline_refused _ (λ i. omega (arith, c.type_inv.book i)) c.asked_date-day.ensures c.outline-reply.ensures (search rules) c.in-Refused.is;
+    }

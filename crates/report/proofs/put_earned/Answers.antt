@@ -1,0 +1,19 @@
+-- `put_earned` meets its contract: the rows that the call leaves, or the refusal of the book. Assumes nothing.
+use native.Mathlib.Omega.{arith}
+use mathlib.Core.Path.{◌∙◌}
+use borrow.Author.Rules.{rules}
+use Rattle.report.proofs.Calls.{earned_in_lem, earned_refused}
+use Rattle.report.proofs.Pages.{refused_page}
+use Rattle.report.proofs.put_earned.Goals as goal
+
+pub put_accepted-requires : goal.put_accepted-requires
+put_accepted-requires c =
+    (earned_in_lem _ (λ i. omega (arith, c.type_inv.book i)) c.asked_date-day.ensures c.earned_value-reply.ensures (search rules) (search rules) c.in-Accepted.is, search rules)
+
+pub returns-in-Refused : goal.returns-in-Refused
+returns-in-Refused c =
+    let refused = earned_refused _ (λ i. omega (arith, c.type_inv.book i)) c.asked_date-day.ensures c.earned_value-reply.ensures (search rules) c.in-Refused.is in
+    record {
+      upper_bound = search rules;
+      out_after = c.put_refusal.ensures.out_after ∙ refused_page _ refused;
+    }
