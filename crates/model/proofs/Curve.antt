@@ -34,13 +34,13 @@ days xs = map (λ (x : Dated). x.day) xs
 pub running_days : (s : ℤ) (xs : List Dated) → days (running s xs) ≡ days xs
 unfolding running
 running_days s [] = refl
-running_days s (x ∷ xs) = ap (λ (l : List ℕ). x.day ∷ l) (running_days _ xs)
+running_days s (x ∷ xs) = ap (λ (l : List ℕ). x.day ∷ l) (running_days (clamp w64 (s +ℤ x.amount)) xs)
 
 -- and figures of 64 bits
 running_fits : (s : ℤ) (xs : List Dated) (y : Dated) → Memᴰ y (running s xs) → SFits w64 y.amount
 unfolding running
 running_fits s [] y m = absurd (Memᴰ.not-nil m)
-running_fits s (x ∷ xs) y m = ⊎_elim (λ e. rw e (clamp_fits w64 (s +ℤ x.amount))) (λ r. running_fits _ xs y r) (Memᴰ.cases_cons m)
+running_fits s (x ∷ xs) y m = ⊎_elim (λ e. rw e (clamp_fits w64 (s +ℤ x.amount))) (λ r. running_fits (clamp w64 (s +ℤ x.amount)) xs y r) (Memᴰ.cases_cons m)
 
 pub curve_fits : (book : Book) (from to : ℕ) (y : Dated) → Memᴰ y (planned_curve_between book from to) → SFits w64 y.amount
 unfolding planned_curve_between planned_curve

@@ -3,14 +3,14 @@ use mathlib.Core.Path.{◌≡◌, sym, ap, ◌∙◌}
 use mathlib.Core.List.{List, map, flat_map}
 use Prim.Native.Nat.{ℕ}
 use lib.IntN.{ℤ}
-use Rattle.flat.proofs.Tables.{flat_map, flat_same, map_flat}
+use Rattle.flat.proofs.Tables.{flat_map_map, flat_same, map_flat}
 use Rattle.money.specs.Words.{bits}
 use Rattle.rows.specs.Rows.{numbers}
 
 module _ {A : Type 0} where
   pub numbers_flat : (row : A → List ℕ) (xs : List A) → numbers (map row xs) ≡ flat_map row xs
   unfolding numbers
-  numbers_flat row xs = flat_map (λ (r : List ℕ). r) row xs
+  numbers_flat row xs = flat_map_map (λ (r : List ℕ). r) row xs
 
   -- the rows are the figures in two's complement
   pub numbers_made :

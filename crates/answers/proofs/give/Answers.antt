@@ -1,5 +1,4 @@
 -- `give` meets its contract: the number and the place of the answer.
-use borrow.Author.Rules.{rules}
 use mathlib.Core.Path.{refl}
 use Rattle.answers.specs.Calls.{reply_number, reply_place}
 use Rattle.answers.proofs.give.Goals as goal

@@ -1,12 +1,8 @@
 -- `fill` meets its contract. The loop's invariant: what is passed is x, the rest as it was.
-use Prim.Native.Nat.{ℕ, ◌≤◌, ◌-◌}
-use mathlib.Core.Path.{◌≡◌, ap, ◌∙◌}
-use mathlib.Core.List.{List, ◌++◌, append-nil}
-use native.Mathlib.Omega.{arith}
-use lib.ListN.{length, replicate, drop, set, length-set}
-use lib.Seq.{drop-length}
-use borrow.Author.Rules.{rules}
-use borrow.Author.Fill.{fill_none, fill_more}
+use Prim.Native.Nat.{◌≤◌, ◌-◌}
+use mathlib.Core.Path.{◌≡◌}
+use mathlib.Core.List.{◌++◌}
+use lib.ListN.{length, replicate, drop}
 use Rattle.descent.proofs.fill.Given as goal
 
 abbrev pub invariant-loop-i : goal.invariant-loop-i

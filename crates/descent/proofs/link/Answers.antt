@@ -3,8 +3,7 @@ use Prim.Native.Nat.{ℕ, ◌-◌}
 use native.Mathlib.Omega.{arith}
 use mathlib.Core.Path.{◌≡◌, sym, ap, ◌∙◌}
 use lib.ListN.{length, replicate}
-use borrow.Author.Rules.{rules}
-use Rattle.descent.proofs.Links.{Linking, placed, linking_first, linking_turn, linking_last}
+use Rattle.descent.proofs.Links.{placed, linking_first, linking_turn, linking_last}
 use Rattle.descent.proofs.link.Goals as goal
 
 pub loop-i-init : goal.loop-i-init

@@ -1,10 +1,5 @@
 -- `link` meets its contract. The loop's invariant: the columns chain the activities from i on.
-use Prim.Native.Nat.{ℕ, ◌-◌}
-use native.Mathlib.Omega.{arith}
-use mathlib.Core.Path.{◌≡◌, sym, ap, ◌∙◌}
-use lib.ListN.{length, replicate}
-use borrow.Author.Rules.{rules}
-use Rattle.descent.proofs.Links.{Linking, placed, linking_first, linking_turn, linking_last}
+use Rattle.descent.proofs.Links.{Linking}
 use Rattle.descent.proofs.link.Given as goal
 
 abbrev pub invariant-loop-i : goal.invariant-loop-i

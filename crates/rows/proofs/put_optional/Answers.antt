@@ -1,7 +1,6 @@
 -- `put_optional` meets its contract: by what is given.
 use mathlib.Core.Path.{refl}
 use native.Mathlib.Numerals.{add-one}
-use borrow.Author.Rules.{rules}
 use Rattle.rows.specs.Rows.{optional}
 use Rattle.rows.proofs.put_optional.Goals as goal
 

@@ -1,11 +1,10 @@
 -- `put_row` meets its contract: one number a turn.
-use Prim.Native.Nat.{ℕ, ◌+◌, ◌-◌, ◌≤◌}
+use Prim.Native.Nat.{ℕ, ◌+◌}
 use native.Mathlib.Omega.{arith}
 use mathlib.Core.Path.{◌≡◌, refl, ap, ◌∙◌}
 use mathlib.Core.List.{[]}
-use lib.ListN.{length, get_or, drop, length-set, drop_of_length-le}
+use lib.ListN.{get_or, drop, length-set, drop_of_length-le}
 use lib.Seq.{sets}
-use borrow.Author.Rules.{rules}
 use Rattle.flat.proofs.Sets.{sets_step}
 use Rattle.rows.proofs.put_row.Goals as goal
 

@@ -1,13 +1,10 @@
 -- `walk_up` meets its contract. The loop's invariant: the steps made, with those that are ahead, are the whole walk's.
-use Prim.Native.Nat.{ℕ, ◌+◌, ◌-◌}
-use mathlib.Core.Path.{◌≡◌, sym, ap, ◌∙◌}
-use native.Mathlib.Nat.{sub-zero}
-use native.Mathlib.Omega.{arith}
-use lib.ListN.{length, get_or}
-use borrow.Author.Rules.{rules}
-use Rattle.model.specs.Tree.{walk, steps_made}
+use Prim.Native.Nat.{◌+◌, ◌-◌}
+use mathlib.Core.Path.{◌≡◌}
+use lib.ListN.{length}
+use Rattle.model.specs.Tree.{walk}
 use Rattle.tree.specs.Figures.{parents_of}
-use Rattle.tree.proofs.Walks.{ahead, walk_is, ahead_done, ahead_top, ahead_next}
+use Rattle.tree.proofs.Walks.{ahead}
 use Rattle.tree.proofs.walk_up.Given as goal
 
 abbrev pub invariant-loop-made : goal.invariant-loop-made

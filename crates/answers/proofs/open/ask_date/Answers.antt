@@ -1,5 +1,4 @@
 -- `ask_date` meets its contract: what is refused stays so, and one condition more is tested.
-use borrow.Author.Rules.{rules}
 use mathlib.Core.Path.{sym, ◌∙◌}
 use Rattle.answers.proofs.Replies.{still_refused, asked_met, asked_unmet}
 use Rattle.answers.proofs.open.ask_date.Goals as goal
