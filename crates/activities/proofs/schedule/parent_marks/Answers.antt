@@ -22,7 +22,7 @@ loop-i-preserved c =
     let taken = c.loop-i-test.true in
     let parent = get_or c.args.schedule.now (loop.i * 13 + 0) 0 in
     let marked : c.if-parent-lt500.marks ≡ set loop.marks parent 1 =
-    elim c.if-parent-lt500.branch [ then-parent-lt500 w ↦ w.marks_is | else-parent-lt500 w ↦ w.marks_is ∙ sym (set_out loop.marks parent 1 (omega (arith, loop.invariant.0, w.0.left))) ]
+    elim c.if-parent-lt500.branch [ then-parent-lt500 w ↦ w.marks-is | else-parent-lt500 w ↦ w.marks-is ∙ sym (set_out loop.marks parent 1 (omega (arith, loop.invariant.0))) ]
     in (
       ap length marked ∙ length-set loop.marks parent 1 ∙ loop.invariant.0,
       λ book e.

@@ -45,32 +45,34 @@ pub fill_days-requires : goal.fill_days-requires
 unfolding elements
 fill_days-requires c =
     let l = c.loop-i in
-    let x = calendar_of c.args.book.now c.read_calendar-calendar.result in (
-      c.requires.to_bound,
-      (
-        omega (arith, part_length l.days l.at (c.args.to + 1 - c.args.from) (room (goal.at.fill_days-requires c).After-read_calendar-calendar)),
-        subst (λ (y : Calendar). CalendarInRange y) (is_next (goal.at.fill_days-requires c).After-read_calendar-calendar x)
-            (c.requires.from_in_bounds.1 l.i x (omega (arith, read_length calendar c.args.book.now c.args.calendars.count c.args.calendars.first))),
-      ),
-    )
+    let s = c.args in
+    let x = calendar_of s.book.now c.read_calendar-calendar.result in
+    let r = room (goal.at.fill_days-requires c).After-read_calendar-calendar in
+    record {
+      to_bound = c.requires.to_bound;
+      from_in_bounds = omega (arith, part_length l.days l.at (s.to + 1 - s.from) r);
+      calendar_in_range =
+          subst (λ (y : Calendar). CalendarInRange y) (is_next (goal.at.fill_days-requires c).After-read_calendar-calendar x)
+          (c.requires.every l.i x (omega (arith, read_length calendar s.book.now s.calendars.count s.calendars.first)));
+    }
 
 pub loop-i-preserved : goal.loop-i-preserved
 unfolding elements
 loop-i-preserved c =
     let l = c.loop-i in
-    let width = c.args.to + 1 - c.args.from in
-    let all = ((alike c.args.calendars.count calendar).read c.args.book.now c.args.calendars.first).0 in
-    let ys = c.fill_days.new.1.1.1.1.0 in
-    let long = c.fill_days.auto.1.1.1.1.0 ∙ part_length l.days l.at width (room (goal.at.loop-i-preserved c).After-read_calendar-calendar) in (
+    let s = c.args in
+    let width = s.to + 1 - s.from in
+    let all = ((alike s.calendars.count calendar).read s.book.now s.calendars.first).0 in
+    let at = (goal.at.loop-i-preserved c).After-read_calendar-calendar in
+    let r = room at in
+    let ys = c.fill_days.new.days in
+    let long = c.fill_days.auto.days ∙ part_length l.days l.at width r in (
       reading_more calendar _ _ _ l.invariant.0 c.loop-i-test.true c.read_calendar-calendar.ensures,
       omega (arith, l.invariant.1, part_end l.i width),
-      part_kept l.days ys l.at width (room (goal.at.loop-i-preserved c).After-read_calendar-calendar) long ∙ l.invariant.2,
-      shown_more all c.args.from c.args.to l.i l.at l.days ys _ (calendar_of c.args.book.now c.read_calendar-calendar.result) l.invariant.1 (omega (arith, room (goal.at.loop-i-preserved c).After-read_calendar-calendar)) long
-          (is_next (goal.at.loop-i-preserved c).After-read_calendar-calendar) c.fill_days.ensures l.invariant.3,
+      part_kept l.days ys l.at width r long ∙ l.invariant.2,
+      shown_more all s.from s.to l.i l.at l.days ys _ (calendar_of s.book.now c.read_calendar-calendar.result) l.invariant.1 (omega (arith, r)) long
+          (is_next at) c.fill_days.ensures l.invariant.3,
     )
-
-pub shape_of-days : goal.shape_of-days
-shape_of-days c = c.loop-i.invariant.2
 
 pub returns : goal.returns
 unfolding elements

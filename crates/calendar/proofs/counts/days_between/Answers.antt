@@ -10,8 +10,8 @@ returns-then-to-from c = sym (none_between _ _ _ c.if-to-from.true)
 
 pub overflow_sub-result : goal.overflow_sub-result
 overflow_sub-result c =
-    omega (arith, rises_between_lem c.args.base c.args.counts.now c.args.from c.args.to c.requires.base_in_bounds.1 c.if-to-from.false)
+    omega (arith, rises_between_lem c.args.base c.args.counts.now c.args.from c.args.to c.requires.rises c.if-to-from.false)
 
 pub returns : goal.returns
 returns c =
-    omega (arith, rises_between_lem c.args.base c.args.counts.now c.args.from c.args.to c.requires.base_in_bounds.1 c.if-to-from.false)
+    omega (arith, rises_between_lem c.args.base c.args.counts.now c.args.from c.args.to c.requires.rises c.if-to-from.false)

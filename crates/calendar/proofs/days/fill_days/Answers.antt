@@ -6,18 +6,11 @@ use Rattle.sections.specs.Sections.{calendar_of}
 use Rattle.calendar.proofs.Overlays.{shows_working}
 use Rattle.calendar.proofs.days.fill_days.Goals as goal
 
-pub shape_of-days : goal.shape_of-days
-shape_of-days c =
-    c.overlay_exceptions.auto.1.1.1.0
-    ∙ c.overlay_days-2.auto.1.1.1.1.0
-    ∙ c.overlay_days.auto.1.1.1.1.0
-    ∙ c.fill_usual.auto.1.1.1.1.0
-
 pub returns : goal.returns
 unfolding calendar_of
 returns c =
-    shows_working (calendar_of c.args.book.now c.args.calendar) c.requires.from_in_bounds.1 c.args.from c.args.to
-    (omega (arith, c.fill_usual.auto.1.1.1.1.0))
+    shows_working (calendar_of c.args.book.now c.args.calendar) c.requires.calendar_in_range c.args.from c.args.to
+    (omega (arith, c.fill_usual.auto.days))
     c.fill_usual.ensures
     c.overlay_days.ensures
     c.overlay_days-2.ensures

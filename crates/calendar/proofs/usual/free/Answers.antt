@@ -1,41 +1,44 @@
 -- `free` meets its contract: a day before 1970 is in no table.
-use mathlib.Core.Path.{refl, ap, ◌∙◌}
-use mathlib.Core.Bool.{false}
-use borrow.Author.Rules.{rules}
+use Prim.Native.Nat.{ℕ}
+use mathlib.Core.Path.{◌≡◌, refl, ap, ◌∙◌}
+use mathlib.Core.Bool.{false, true}
 use lib.IntN.{ℤ, pos, nat_abs}
 use lib.Signed.{le_z}
 use mir.Syntax.{w32}
 use mir.Val.{SFits}
 use mir.Facts.{to_z-of_z}
+use Rattle.dates.specs.declared.Day.{Day}
+use Rattle.dates.specs.declared.Day.TheVariants.{At}
+use Rattle.dates.specs.Date.{is_day}
 use Rattle.integer.specs.Linear.{linear, within, seen, abs}
 use Rattle.gregorian.proofs.Counts.{tested}
 use Rattle.holidays.proofs.Ranges.{day_fits}
 use Rattle.calendar.specs.Tables.{marked, freed}
 use Rattle.calendar.proofs.Freed.{freed_from, freed_before}
 use Rattle.calendar.proofs.usual.free.Goals as goal
-use Rattle.calendar.proofs.usual.free.Goals.{In-At}
 
--- the day z, as the code reads it
-module _ (c : tie.After-known-told) where
-  abbrev z : ℤ
-  z = c.before.day.given.0.0
-
-  fits : SFits w32 z
-  fits = day_fits z (c.before.before.before.before.requires z c.before.day.given.1)
+-- the day, as the code reads it
+fits : (day : Day) → ((z : ℤ) → day ≡ At z → is_day z ≡ true) → (z : ℤ) → day ≡ At z → SFits w32 z
+fits day h z e = day_fits z (h z e)
 
 pub overflow_cast-z : goal.overflow_cast-z
-overflow_cast-z c = omega (linear, within (fits (goal.at.overflow_cast-z c).In-At), abs (seen w32 (z (goal.at.overflow_cast-z c).In-At)))
+overflow_cast-z c =
+    let z = c.in-At.z in
+    omega (linear, within (fits c.args.day c.requires z c.in-At.is), abs (seen w32 z))
 
 pub returns-then-z-ge0 : goal.returns-then-z-ge0
 returns-then-z-ge0 c =
     let s = c.args in
-    rw (c.in-At.is, freed_from s.base s.days.now (z (goal.at.returns-then-z-ge0 c).In-At) (tested (le_z (pos 0)) (fits (goal.at.returns-then-z-ge0 c).In-At) refl c.if-z-ge0.true))
-    (c.mark.ensures ∙ ap (λ (v : ℤ). marked s.base (nat_abs v) false s.days.now) (to_z-of_z (fits (goal.at.returns-then-z-ge0 c).In-At)))
+    let z = c.in-At.z in
+    let f = fits s.day c.requires z c.in-At.is in
+    rw (c.in-At.is, freed_from s.base s.days.now z (tested (le_z (pos 0)) f refl c.if-z-ge0.true))
+    (c.mark.ensures ∙ ap (λ (v : ℤ). marked s.base (nat_abs v) false s.days.now) (to_z-of_z f))
 
 pub returns-else-z-ge0 : goal.returns-else-z-ge0
 returns-else-z-ge0 c =
     let s = c.args in
-    rw (c.in-At.is, freed_before s.base s.days.now (z (goal.at.returns-else-z-ge0 c).In-At) (tested (le_z (pos 0)) (fits (goal.at.returns-else-z-ge0 c).In-At) refl c.if-z-ge0.false))
+    let z = c.in-At.z in
+    rw (c.in-At.is, freed_before s.base s.days.now z (tested (le_z (pos 0)) (fits s.day c.requires z c.in-At.is) refl c.if-z-ge0.false))
 
 pub returns-in-Nothing : goal.returns-in-Nothing
 unfolding freed

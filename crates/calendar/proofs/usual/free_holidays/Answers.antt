@@ -1,17 +1,17 @@
 -- `free_holidays` meets its contract: what is left of the years, taken off, leaves what all of them leave.
-use Prim.Native.Nat.{◌+◌, ◌-◌, ◌≤◌}
+use Prim.Native.Nat.{ℕ, ◌+◌, ◌-◌, ◌*◌, ◌/◌, ◌≤◌}
 use mathlib.Core.Path.{◌≡◌, refl, sym, ap, ◌∙◌}
 use mathlib.Core.List.{foldl}
-use native.Mathlib.Omega.{arith}
-use borrow.Author.Rules.{rules}
-use lib.IntN.{ℤ}
-use lib.ListN.{length}
+use lib.IntN.{ℤ, pos}
+use mir.Syntax.{w32}
+use mir.Val.{SFits}
 use mir.Facts.{to_z-of_z}
+use Rattle.integer.specs.Linear.{linear}
 use Rattle.holidays.specs.Year.{holidays_in}
 use Rattle.calendar.specs.Tables.{freed}
+use native.Mathlib.Omega.{arith}
 use Rattle.calendar.proofs.Freed.{years_past, holidays_up_to, free_next_year, free_no_year, shows_freed}
 use Rattle.calendar.proofs.usual.free_holidays.Goals as goal
-use Rattle.calendar.proofs.usual.free_holidays.Goals.{In-loop-n}
 
 pub returns-then-to-from : goal.returns-then-to-from
 returns-then-to-from c = λ p s. record { at = λ date h k. absurd (omega arith) }
@@ -19,24 +19,16 @@ returns-then-to-from c = λ p s. record { at = λ date h k. absurd (omega arith)
 pub loop-n-init : goal.loop-n-init
 loop-n-init c = (omega arith, refl, refl)
 
-pub overflow_cast-n : goal.overflow_cast-n
-overflow_cast-n c = search rules
-
-pub loop-n-smaller : goal.loop-n-smaller
-loop-n-smaller c = omega arith
-
 pub loop-n-preserved : goal.loop-n-preserved
 loop-n-preserved c =
     let l = c.loop-n in
     let s = c.args in
-    let e = to_z-of_z (overflow_cast-n (goal.at.loop-n-preserved c).In-loop-n) in (
+    let f : SFits w32 (pos (l.n + 1970)) = omega linear in
+    let e = to_z-of_z f in (
       omega arith,
-      c.free_year.auto.1.1.0 ∙ l.invariant.1,
+      c.free_year.auto.days ∙ l.invariant.1,
       free_next_year s.from (years_past s.to) l.n (omega arith) l.days (c.free_year.ensures ∙ ap (λ (y : ℤ). foldl (freed s.from) l.days (holidays_in y)) e) ∙ l.invariant.2,
     )
-
-pub shape_of-days : goal.shape_of-days
-shape_of-days c = c.loop-n.invariant.1
 
 pub returns : goal.returns
 returns c =

@@ -41,12 +41,9 @@ loop-k-preserved c =
     let y = to_z w32 (of_z w32 s.year) in
     let h : l.k < 13 = omega arith in (
       omega arith,
-      c.free.auto.1.1.0 ∙ l.invariant.1,
+      c.free.auto.days ∙ l.invariant.1,
       free_next s.base (holidays_in y) l.k h l.days (c.free.ensures ∙ ap (freed s.base l.days) c.holiday_in-day.ensures) ∙ l.invariant.2,
     )
-
-pub shape_of-days : goal.shape_of-days
-shape_of-days c = c.loop-k.invariant.1
 
 pub returns : goal.returns
 unfolding holidays_in

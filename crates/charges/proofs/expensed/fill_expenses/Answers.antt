@@ -31,4 +31,7 @@ unfolding elements
 returns c =
     let inv = c.loop-i.invariant in
     let left = c.loop-i-test.false in
-    (rows_end inv.0 left, rows_end inv.1 left)
+    record {
+      booked = rows_end inv.0 left;
+      counted = rows_end inv.1 left;
+    }
