@@ -36,7 +36,10 @@ pub loop-date-preserved : goal.loop-date-preserved
 loop-date-preserved c = adding_past _ _ c.loop-date.invariant c.loop-date-test.true c.requires.latest (sym c.is_marked.ensures ∙ c.if-is_marked.false)
 
 pub returns : goal.returns
-returns c = (adding_end _ _ c.loop-date.invariant c.loop-date-test.false, adding_within _ _ c.loop-date.invariant)
+returns c = record {
+      sum = adding_end _ _ c.loop-date.invariant c.loop-date-test.false;
+      small = adding_within _ _ c.loop-date.invariant;
+    }
 
 pub loop-date-init : goal.loop-date-init
 loop-date-init c = adding_none _ _ _ _

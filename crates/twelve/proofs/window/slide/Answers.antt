@@ -18,10 +18,10 @@ add-wider-requires c =
 
 pub returns-then-month-first : goal.returns-then-month-first
 returns-then-month-first c =
-    let i = c.args.month in (
-      moved_on _ i c.requires.has_reach.1.1.0 c.sum_month.ensures.sum c.add-wider.ensures c.args.first c.requires.has_reach.0.1 (omega (arith, c.if-month-first.true)),
-      within_more (i + i + 1) (i + i + 2) (value_of c.add-wider.result) (omega arith) (wider (goal.at.returns-then-month-first c).After-add-wider),
-    )
+    let i = c.args.month in record {
+      sum = moved_on _ i c.requires.has_reach.1.1.0 c.sum_month.ensures.sum c.add-wider.ensures c.args.first c.requires.has_reach.0.1 (omega (arith, c.if-month-first.true));
+      small = within_more (i + i + 1) (i + i + 2) (value_of c.add-wider.result) (omega arith) (wider (goal.at.returns-then-month-first c).After-add-wider);
+    }
 
 pub subtract-requires : goal.subtract-requires
 subtract-requires c =
@@ -31,11 +31,11 @@ subtract-requires c =
 pub returns : goal.returns
 returns c =
     let i = c.args.month in
-    let old = c.sum_month-2 in (
-      moved_past _ i c.requires.has_reach.1.1.0 c.sum_month.ensures.sum c.add-wider.ensures (omega (arith, c.if-month-first.false)) old.ensures.sum c.subtract.ensures,
-      within_more (i + i + 1 + 1) (i + i + 2) (value_of c.subtract.result) (omega arith)
-          (within_dif (i + i + 1) 1 (value_of c.add-wider.result) (value_of old.result) (wider (goal.at.returns c).After-add-wider) old.ensures.small c.subtract.ensures),
-    )
+    let old = c.sum_month-2 in record {
+      sum = moved_past _ i c.requires.has_reach.1.1.0 c.sum_month.ensures.sum c.add-wider.ensures (omega (arith, c.if-month-first.false)) old.ensures.sum c.subtract.ensures;
+      small = within_more (i + i + 1 + 1) (i + i + 2) (value_of c.subtract.result) (omega arith)
+          (within_dif (i + i + 1) 1 (value_of c.add-wider.result) (value_of old.result) (wider (goal.at.returns c).After-add-wider) old.ensures.small c.subtract.ensures);
+    }
 
 pub sum_month-requires : goal.sum_month-requires
 sum_month-requires c = (c.requires.days_value, (c.requires.has_reach.0.0, c.requires.has_reach.1.0.1))

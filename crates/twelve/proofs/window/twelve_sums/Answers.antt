@@ -25,7 +25,10 @@ slide-window-requires c =
 
 pub returns-then-not-is_word : goal.returns-then-not-is_word
 returns-then-not-is_word c =
-    (sym (summing_fails _ _ _ c.requires.has_reach.1 (inside (goal.at.returns-then-not-is_word c).In-loop-k) c.slide-window.ensures.sum (sym c.before.is_IsWord.ensures ∙ not-true _ c.if-not-is_word.true)), λ e. absurd (true≢false (sym e)))
+    record {
+      words = sym (summing_fails _ _ _ c.requires.has_reach.1 (inside (goal.at.returns-then-not-is_word c).In-loop-k) c.slide-window.ensures.sum (sym c.before.is_IsWord.ensures ∙ not-true _ c.if-not-is_word.true));
+      filled = λ e. absurd (true≢false (sym e));
+    }
 
 -- where the loop goes on, the sum is of 64 bits
 word : (c : Else-not-is_word) → is_word (value_of c.slide-window.result) ≡ true
@@ -40,7 +43,10 @@ loop-k-preserved c =
 pub returns : goal.returns
 returns c =
     let w = c.loop-k.invariant in
-    (sym (summing_words _ _ _ c.requires.has_reach.1 w (omega (arith, w.long))), λ e. summing_filled _ _ _ c.requires.has_reach.1 w (omega (arith, w.long)))
+    record {
+      words = sym (summing_words _ _ _ c.requires.has_reach.1 w (omega (arith, w.long)));
+      filled = λ e. summing_filled _ _ _ c.requires.has_reach.1 w (omega (arith, w.long));
+    }
 
 pub loop-k-init : goal.loop-k-init
 loop-k-init c = summing_none _ _ _ c.requires.has_reach.1 _ refl
