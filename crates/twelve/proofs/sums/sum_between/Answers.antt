@@ -37,9 +37,9 @@ loop-date-preserved c = adding_past _ _ c.loop-date.invariant c.loop-date-test.t
 
 pub returns : goal.returns
 returns c = record {
-      sum = adding_end _ _ c.loop-date.invariant c.loop-date-test.false;
-      small = adding_within _ _ c.loop-date.invariant;
-    }
+  sum = adding_end _ _ c.loop-date.invariant c.loop-date-test.false;
+  small = adding_within _ _ c.loop-date.invariant;
+}
 
 pub loop-date-init : goal.loop-date-init
 loop-date-init c = adding_none _ _ _ _

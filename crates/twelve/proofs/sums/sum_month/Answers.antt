@@ -21,8 +21,8 @@ returns c =
     let a = c.args in
     let sum = c.sum_between.ensures in
     record {
-      sum = sum.0 ∙ month_sum_lem a.table.now a.reach (january2000 + a.i) _ _ (omega (arith, c.later-first.ensures, c.first_day.ensures)) (omega (arith, c.earlier-last.ensures, c.last_day.ensures));
-      small = sum.1;
+      sum = sum.sum ∙ month_sum_lem a.table.now a.reach (january2000 + a.i) _ _ (omega (arith, c.later-first.ensures, c.first_day.ensures)) (omega (arith, c.earlier-last.ensures, c.last_day.ensures));
+      small = sum.small;
     }
 
 pub first_day-requires : goal.first_day-requires
