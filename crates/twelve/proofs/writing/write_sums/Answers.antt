@@ -12,10 +12,10 @@ returns-then-not-twelve_sums c = puts_failed (sym c.twelve_sums.ensures.words �
 
 pub put_fitting-requires : goal.put_fitting-requires
 put_fitting-requires c =
-    let long = c.sums-1.given in
+    let long = c.twelve_sums.auto.sums in
     record { days_value = c.requires.days_value; sums_bound = (omega (arith, c.requires.has_reach.1.most, long), omega (arith, c.requires.sums_nonzero, long)) }
 
 pub returns : goal.returns
 returns c =
     let summed = c.twelve_sums.ensures in
-    puts_if (sym summed.words ∙ c.if-not-twelve_sums.false) (c.put_fitting.ensures _ (listed_long_lem c.requires.has_reach.1 (sym c.sums-1.given)) (summed.filled c.if-not-twelve_sums.false))
+    puts_if (sym summed.words ∙ c.if-not-twelve_sums.false) (c.put_fitting.ensures _ (listed_long_lem c.requires.has_reach.1 (sym c.twelve_sums.auto.sums)) (summed.filled c.if-not-twelve_sums.false))
