@@ -16,7 +16,7 @@ use Rattle.integer.specs.Linear.{linear}
 use Rattle.lists.specs.Lists.{any, span}
 use Rattle.lists.proofs.Lists.{in_any, any_none}
 use Rattle.lists.proofs.Spans.{span_length, span_in_lem, made_from, span_from}
-use Rattle.flat.proofs.Tables.{flat_same, flat_map}
+use Rattle.flat.proofs.Tables.{flat_same, flat_map_map}
 use Rattle.money.specs.Words.{bits}
 use Rattle.money.specs.Exact.{is_word}
 use Rattle.months.specs.Months.{first_day, january2000}
@@ -148,10 +148,10 @@ module _ {xs : List Monthly} {first n : ℕ} (w : AreListed xs (listed_from firs
         let row : ℕ → List ℕ = λ m. twelve_row (twelve_months_to xs m) in
         let at : ℕ → ℕ = λ k. january2000 + first + k in
         flat_same (summed_row first r sums) (λ k. row (at k)) (span 0 n) (λ k m. row_is k (omega (arith, span_in_lem 0 n k m)) ∙ ap row (month_at_lem k))
-        ∙ sym (flat_map row at (span 0 n))
+        ∙ sym (flat_map_map row at (span 0 n))
         ∙ ap (flat_map row) (span_from (january2000 + first) n)
         ∙ sym (ap (flat_map row) w.spanned)
-        ∙ sym (flat_map twelve_row (twelve_months_to xs) (months xs))
+        ∙ sym (flat_map_map twelve_row (twelve_months_to xs) (months xs))
         ∙ sym (numbers_flat twelve_row (twelve_months_of xs))
 
 -- ---- one row

@@ -12,7 +12,10 @@ stretch_of-known-requires c =
     let b = content c.args.book.now in
     let w = c.requires.listed_value in
     let range = content_in_range c.args.book.now c.requires.opened.plan.accepted in
-    ((listed_long_lem b w.0 ∙ sym (ap (λ (n : ℕ). n * 3) (budgets_long_lem b w.1)), omega arith), listed_spans c.args.listed.now (listed_dated b w.0 range))
+    record {
+      table_len = (listed_long_lem b w.0 ∙ sym (ap (λ (n : ℕ). n * 3) (budgets_long_lem b w.1)), omega arith);
+      dated_spans = listed_spans c.args.listed.now (listed_dated b w.0 range);
+    }
 
 pub returns : goal.returns
 returns c =

@@ -43,7 +43,7 @@ loop-date-preserved-then-is_marked c =
     let old = c.from_bits-sum in
     let new = c.saturating_add-total in
     adding_more _ _ c.loop-date.invariant c.loop-date-test.true (sym c.is_marked.ensures ∙ c.if-is_marked.true)
-    (back w64 new.result new.type_inv ∙ new.ensures ∙ ap (λ (z : ℤ). clamp w64 (to_z w64 c.loop-date.total +ℤ z)) (back w64 old.result old.type_inv ∙ old.ensures))
+    (back w64 new.result new.type_inv ∙ new.ensures ∙ ap (λ (z : ℤ). clamp w64 (to_z w64 c.loop-date.total-bits +ℤ z)) (back w64 old.result old.type_inv ∙ old.ensures))
 
 pub overflow_add-date-in-loop-date : goal.overflow_add-date-in-loop-date
 overflow_add-date-in-loop-date c = omega (arith, c.requires.latest)
@@ -55,4 +55,7 @@ pub loop-date-preserved : goal.loop-date-preserved
 loop-date-preserved c = adding_past _ _ c.loop-date.invariant c.loop-date-test.true (sym c.is_marked.ensures ∙ c.if-is_marked.false)
 
 pub returns : goal.returns
-returns c = (adding_count _ _ c.loop-date.invariant c.loop-date-test.false, adding_sum _ _ c.loop-date.invariant c.loop-date-test.false)
+returns c = record {
+  points = adding_count _ _ c.loop-date.invariant c.loop-date-test.false;
+  total = adding_sum _ _ c.loop-date.invariant c.loop-date-test.false;
+}

@@ -12,7 +12,7 @@ use borrow.Author.Rules.{rules}
 use Rattle.bydate.proofs.bymonth.sum_between.Given as goal
 
 abbrev pub invariant-loop-date : goal.invariant-loop-date
-invariant-loop-date l = Adding l.base l.table l.first l.last l.date l.points (to_z w64 l.total)
+invariant-loop-date l = Adding l.base l.table l.first l.last l.date l.points l.total
 
 abbrev pub decreases-loop-date : goal.decreases-loop-date
 decreases-loop-date l = l.last + 1 - l.date

@@ -58,4 +58,7 @@ returns c =
     let s = c.args in
     let l = c.loop-date in
     let none = points_end s.base s.to s.table.now l.date c.loop-date-test.false in
-    (putting_count l.invariant.2 none, putting_end l.invariant.2 none)
+    record {
+      value = putting_count l.invariant.2 none;
+      out_after = putting_end l.invariant.2 none;
+    }

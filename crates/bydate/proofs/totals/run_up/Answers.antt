@@ -10,7 +10,6 @@ use Rattle.integer.specs.Linear.{back}
 use Rattle.bydate.proofs.Running.{Totalling, totalling_none, totalling_past, totalling_more, totalling_long, totalling_end}
 use borrow.Author.Rules.{rules}
 use Rattle.bydate.proofs.totals.run_up.Goals as goal
-use Rattle.bydate.proofs.totals.run_up.Goals.{After-slice_known-then-is_marked-1}
 
 pub loop-date-init : goal.loop-date-init
 loop-date-init c = totalling_none _ _ _ _
@@ -35,7 +34,9 @@ bounds-table-at c =
     omega (arith, c.requires.start, c.requires.reach, l.invariant.begun, totalling_long _ _ _ l.invariant)
 
 pub bounds-table-at-then-is_marked : goal.bounds-table-at-then-is_marked
-bounds-table-at-then-is_marked c = bounds-table-at (goal.at.bounds-table-at-then-is_marked c).After-slice_known-then-is_marked-1
+bounds-table-at-then-is_marked c =
+    let l = c.loop-date in
+    omega (arith, c.requires.start, c.requires.reach, l.invariant.begun, totalling_long _ _ _ l.invariant)
 
 pub overflow_add-date : goal.overflow_add-date
 overflow_add-date c = omega (arith, c.requires.latest)
@@ -49,7 +50,7 @@ loop-date-preserved-then-is_marked c =
     let old = c.from_bits in
     let new = c.saturating_add-total in
     totalling_more _ _ _ l.invariant c.loop-date-test.true (sym c.is_marked.ensures ∙ c.if-is_marked.true)
-    (back w64 new.result new.type_inv ∙ new.ensures ∙ ap (λ (z : ℤ). clamp w64 (to_z w64 l.total +ℤ z)) (back w64 old.result old.type_inv ∙ old.ensures))
+    (back w64 new.result new.type_inv ∙ new.ensures ∙ ap (λ (z : ℤ). clamp w64 (to_z w64 l.total-bits +ℤ z)) (back w64 old.result old.type_inv ∙ old.ensures))
     c.to_bits.ensures
 
 pub overflow_add-date-in-loop-date : goal.overflow_add-date-in-loop-date

@@ -12,7 +12,7 @@ use borrow.Author.Rules.{rules}
 use Rattle.bydate.proofs.totals.run_up.Given as goal
 
 abbrev pub invariant-loop-date : goal.invariant-loop-date
-invariant-loop-date l = Totalling l.base l.first l.to l.initial.table l.date (to_z w64 l.total) l.table
+invariant-loop-date l = Totalling l.base l.first l.to l.initial.table l.date l.total l.table
 
 abbrev pub decreases-loop-date : goal.decreases-loop-date
 decreases-loop-date l = l.to + 1 - l.date

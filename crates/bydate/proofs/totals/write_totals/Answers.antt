@@ -12,11 +12,11 @@ pub run_up-requires : goal.run_up-requires
 run_up-requires c = let r = c.requires in record { start = omega arith; reach = r.reach; latest = r.latest }
 
 pub write_points-requires : goal.write_points-requires
-write_points-requires c = let r = c.requires in record { start = r.start; reach = omega (arith, r.reach, c.run_up.auto.1.1.1.0); latest = r.latest }
+write_points-requires c = let r = c.requires in record { start = r.start; reach = omega (arith, r.reach, c.run_up.auto.table); latest = r.latest }
 
 pub returns : goal.returns
 returns c =
     let s = c.args in
     puts_same
-    (points_from s.base s.base s.from s.to c.run_up.new.1.1.1.0 c.requires.start ∙ ap (keep (is_between s.from s.to)) c.run_up.ensures)
+    (points_from s.base s.base s.from s.to c.run_up.new.table c.requires.start ∙ ap (keep (is_between s.from s.to)) c.run_up.ensures)
     c.write_points.ensures

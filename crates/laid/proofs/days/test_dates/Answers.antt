@@ -37,7 +37,7 @@ loop-date-preserved c =
     let p = in_row c.args.row c.args.base c.args.days.now in
     let is = c.is_working.ensures in
     let test : l.date ≤ c.args.last = omega arith in
-    elim c.if-is_working.branch [ then-is_working w ↦ (omega (arith, l.invariant.0), omega (arith, l.invariant.1), omega (arith, w.1, l.invariant.2, count_first p l.date c.args.last true test (sym is ∙ w.0.taken))) | else-is_working w ↦ (omega (arith, l.invariant.0), omega (arith, l.invariant.1), omega (arith, w.1, l.invariant.2, count_first p l.date c.args.last false test (sym is ∙ w.0.left))) ]
+    elim c.if-is_working.branch [ then-is_working w ↦ (omega (arith, l.invariant.0), omega (arith, l.invariant.1), omega (arith, w.working-is, l.invariant.2, count_first p l.date c.args.last true test (sym is ∙ w.if-is_working.true))) | else-is_working w ↦ (omega (arith, l.invariant.0), omega (arith, l.invariant.1), omega (arith, w.working-is, l.invariant.2, count_first p l.date c.args.last false test (sym is ∙ w.if-is_working.false))) ]
 
 pub overflow_cast-result-2 : goal.overflow_cast-result-2
 overflow_cast-result-2 c =

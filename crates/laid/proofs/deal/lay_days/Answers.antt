@@ -75,4 +75,7 @@ returns c =
     let s = c.args in
     let l = c.loop-date in
     let none = none_left (in_row s.span.row s.span.base s.days.now) l.date s.last c.loop-date-test.false in
-    (omega (arith, l.invariant.2, ap length none), laying_end l.invariant.3 (ap (dealt (λ d. of_deal s.deal) l.next) none))
+    record {
+      value = omega (arith, l.invariant.2, ap length none);
+      laid = laying_end l.invariant.3 (ap (dealt (λ d. of_deal s.deal) l.next) none);
+    }

@@ -19,10 +19,6 @@ use Rattle.planned.specs.Values.{planned_at}
 use Rattle.planned.proofs.own.leaves_planned.Goals as goal
 use Rattle.planned.proofs.own.leaves_planned.Goals.{else-marks-i-eq0, then-marks-i-eq0}
 
--- the planned values of all
-abbrev values : (date base width : ℕ) (days listed : List ℕ) (budgets : List ℤ) → List ℤ
-values date base width days listed budgets = map (planned_at base width days date listed budgets) (span 0 (length budgets))
-
 pub loop-i-init : goal.loop-i-init
 loop-i-init c = (omega arith, sum_first _ _)
 
@@ -30,7 +26,7 @@ pub bounds-marks-i : goal.bounds-marks-i
 bounds-marks-i c = omega (arith, c.loop-i-test.true, c.requires.most)
 
 pub planned_at-value-requires : goal.planned_at-value-requires
-planned_at-value-requires c = (c.requires, c.loop-i-test.true)
+planned_at-value-requires c = record { are_tabled = c.requires; i_in_bounds = c.loop-i-test.true }
 
 pub loop-i-preserved : goal.loop-i-preserved
 loop-i-preserved c =
@@ -44,17 +40,17 @@ loop-i-preserved c =
       | then-marks-i-eq0 w ↦ (
         omega arith,
         ap (λ (z : ℤ). sum_from marks all z (l.i + 1))
-            (ap (to_z w64) w.3
-            ∙ back w64 w.2.result w.2.ok
-            ∙ w.2.ensures
-            ∙ ap (saturating_add (to_z w64 l.sum)) (back w64 w.1.result w.1.ok ∙ w.1.ensures ∙ sym (made_at f (pos 0) n l.i test)))
-            ∙ sym (sum_taken marks all (to_z w64 l.sum) l.i (omega (arith, made_length f n, test)) (eq-eqb (get_or marks l.i 0) 0 (omega (arith, w.0.taken))))
+            (w.sum-is
+            ∙ back w64 w.saturating_add-sum.result w.saturating_add-sum.type_inv
+            ∙ w.saturating_add-sum.ensures
+            ∙ ap (saturating_add (to_z w64 l.sum-bits)) (back w64 w.planned_at-value.result w.planned_at-value.type_inv ∙ w.planned_at-value.ensures ∙ sym (made_at f (pos 0) n l.i test)))
+            ∙ sym (sum_taken marks all (to_z w64 l.sum-bits) l.i (omega (arith, made_length f n, test)) (eq-eqb (get_or marks l.i 0) 0 w.if-marks-i-eq0.true))
             ∙ l.invariant.1,
       )
       | else-marks-i-eq0 w ↦ (
         omega arith,
-        ap (λ (b : ℕ). sum_from marks all (to_z w64 b) (l.i + 1)) w.1
-            ∙ sym (sum_passed marks all (to_z w64 l.sum) l.i (omega (arith, made_length f n, test)) (ne_eqb (get_or marks l.i 0) 0 (λ e. omega (arith, e, w.0.left))))
+        ap (λ (z : ℤ). sum_from marks all z (l.i + 1)) w.sum-is
+            ∙ sym (sum_passed marks all (to_z w64 l.sum-bits) l.i (omega (arith, made_length f n, test)) (ne_eqb (get_or marks l.i 0) 0 w.if-marks-i-eq0.false))
             ∙ l.invariant.1,
       )
     ]
@@ -65,4 +61,4 @@ returns c =
     let s = c.args in
     let n = length s.budgets.now in
     let f = planned_at s.base s.width s.days.now s.date s.listed.now s.budgets.now in
-    sym (sum_last s.marks.now (map f (span 0 n)) (to_z w64 l.sum) l.i (omega (arith, made_length f n, c.loop-i-test.false))) ∙ l.invariant.1
+    sym (sum_last s.marks.now (map f (span 0 n)) (to_z w64 l.sum-bits) l.i (omega (arith, made_length f n, c.loop-i-test.false))) ∙ l.invariant.1

@@ -18,9 +18,13 @@ use Rattle.tree.proofs.Leaves.{sum_from, sum_first, sum_taken, sum_passed, sum_l
 use Rattle.planned.specs.Values.{planned_at}
 use Rattle.planned.proofs.own.leaves_planned.Given as goal
 
+-- the planned values of all
+abbrev pub values : (date base width : ℕ) (days listed : List ℕ) (budgets : List ℤ) → List ℤ
+values date base width days listed budgets = map (planned_at base width days date listed budgets) (span 0 (length budgets))
+
 abbrev pub invariant-loop-i : goal.invariant-loop-i
 invariant-loop-i l =
-    (l.i ≤ length l.budgets) × (sum_from l.marks (values l.date l.base l.width l.days l.listed l.budgets) (to_z w64 l.sum) l.i ≡ unmarked_sum l.marks (values l.date l.base l.width l.days l.listed l.budgets))
+    (l.i ≤ length l.budgets) × (sum_from l.marks (values l.date l.base l.width l.days l.listed l.budgets) l.sum l.i ≡ unmarked_sum l.marks (values l.date l.base l.width l.days l.listed l.budgets))
 
 abbrev pub decreases-loop-i : goal.decreases-loop-i
 decreases-loop-i l = length l.budgets - l.i

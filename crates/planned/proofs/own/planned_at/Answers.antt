@@ -8,6 +8,7 @@ use lib.IntN.{ℤ}
 use mir.Syntax.{w64}
 use Rattle.integer.specs.Linear.{back}
 use Rattle.baseline.specs.Listed.{first_at, last_at, number_at}
+use Rattle.tree.specs.Figures.{figure_of}
 use Rattle.planned.specs.Values.{planned_by}
 use Rattle.planned.proofs.own.planned_at.Goals as goal
 
@@ -46,4 +47,4 @@ returns c =
     let l = a.listed.now in
     back w64 c.planned_by.result c.planned_by.type_inv
     ∙ c.planned_by.ensures
-    ∙ ap (λ (z : ℤ). planned_by (number_at l a.i * a.width) a.base a.days.now a.date (first_at l a.i) (last_at l a.i) z) (back w64 _ c.amount-1.given)
+    ∙ ap (λ (z : ℤ). planned_by (number_at l a.i * a.width) a.base a.days.now a.date (first_at l a.i) (last_at l a.i) z) (back w64 (figure_of a.budgets.now a.i) (search rules))

@@ -6,7 +6,7 @@ use Rattle.laid.specs.Listed.{in_row}
 use Rattle.laid.proofs.Dates.{dates_between_lem, most_between}
 use Rattle.planned.proofs.Walking.{few_tested, walked_parts}
 use Rattle.planned.proofs.walk.walk_days.Goals as goal
-use Rattle.planned.proofs.walk.walk_days.Goals.{After-struct_known-1}
+use Rattle.planned.proofs.walk.walk_days.Goals.{After-test_dates-early}
 
 pub test_dates-early-requires : goal.test_dates-early-requires
 test_dates-early-requires c =
@@ -16,7 +16,7 @@ test_dates-early-requires c =
 
 -- no more work than are tested, and no more are tested than there are
 early_most :
-    (c : After-struct_known-1) → let early = c.test_dates-early.result in let first = c.args.first in
+    (c : After-test_dates-early) → let early = c.test_dates-early.result in let first = c.args.first in
     (early.working ≤ early.tested) × (early.tested ≤ c.earlier-until.result + 1 - first)
 early_most c =
     let a = c.args in
@@ -26,7 +26,7 @@ early_most c =
 
 pub overflow_add-first : goal.overflow_add-first
 overflow_add-first c =
-    omega (arith, c.ranges.first, c.requires.latest, early_most (goal.at.overflow_add-first c).After-struct_known-1, c.earlier-until.ensures)
+    omega (arith, c.ranges.first, c.requires.latest, early_most (goal.at.overflow_add-first c).After-test_dates-early, c.earlier-until.ensures)
 
 pub test_dates-late-requires : goal.test_dates-late-requires
 test_dates-late-requires c =

@@ -13,8 +13,8 @@ loop-date-init c = (c.requires.point.to, omega arith, λ d h l. absurd (omega ar
 pub is_marked-requires : goal.is_marked-requires
 is_marked-requires c =
     let w = c.requires in
-    let r = w.0.reaches in
-    omega (arith, r.start, r.reach, w.1.from, c.loop-date.invariant.0, c.loop-date.invariant.1)
+    let r = w.has_reach.reaches in
+    omega (arith, r.start, r.reach, w.point.from, c.loop-date.invariant.0, c.loop-date.invariant.1)
 
 pub returns-then-is_marked : goal.returns-then-is_marked
 returns-then-is_marked c =

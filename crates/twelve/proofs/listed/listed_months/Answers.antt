@@ -4,7 +4,7 @@ use native.Mathlib.Omega.{arith}
 use Rattle.twelve.specs.Listed.{IsPoint}
 use Rattle.twelve.proofs.Spanned.{months_order, are_listed, none_listed}
 use Rattle.twelve.proofs.listed.listed_months.Goals as goal
-use Rattle.twelve.proofs.listed.listed_months.Goals.{After-month_at, Else-reach-first}
+use Rattle.twelve.proofs.listed.listed_months.Goals.{Else-reach-first}
 
 pub returns-then-reach-first : goal.returns-then-reach-first
 returns-then-reach-first c = none_listed c.first_point-first.ensures c.if-reach-first.true
@@ -16,23 +16,19 @@ begins c =
     record { from = first.ensures.from; to = c.if-reach-first.false; here = first.ensures.here c.if-reach-first.false }
 
 pub last_point-last-requires : goal.last_point-last-requires
-last_point-last-requires c = (c.requires.has_reach, begins (goal.at.last_point-last-requires c).Else-reach-first)
+last_point-last-requires c = record { has_reach = c.requires.has_reach; point = begins (goal.at.last_point-last-requires c).Else-reach-first }
 
 pub month_at-month-requires : goal.month_at-month-requires
 month_at-month-requires c =
     let w = c.requires in
     let p = begins (goal.at.month_at-month-requires c).Else-reach-first in
-    (w.0, omega (arith, w.1.least, w.1.reaches.latest, p.from, p.to))
+    (w.days_value, omega (arith, w.has_reach.least, w.has_reach.reaches.latest, p.from, p.to))
 
 pub month_at-requires : goal.month_at-requires
 month_at-requires c =
     let w = c.requires in
     let p = c.last_point-last.ensures.point in
-    (w.0, omega (arith, w.1.least, w.1.reaches.latest, p.from, p.to))
-
--- its month is not after the last one's
-order : (c : After-month_at) → c.month_at-month.result ≤ c.month_at.result
-order c = months_order c.first_point-first.ensures c.last_point-last.ensures (begins c.before.before.before) _ _ c.month_at-month.ensures.month c.month_at.ensures.month
+    (w.days_value, omega (arith, w.has_reach.least, w.has_reach.reaches.latest, p.from, p.to))
 
 pub returns : goal.returns
 returns c =
@@ -45,4 +41,6 @@ pub overflow_add-result : goal.overflow_add-result
 overflow_add-result c = omega (arith, c.month_at.ensures.below)
 
 pub overflow_sub-result : goal.overflow_sub-result
-overflow_sub-result c = omega (arith, order c)
+overflow_sub-result c =
+    let p = begins (goal.at.overflow_sub-result c).Else-reach-first in
+    omega (arith, months_order c.first_point-first.ensures c.last_point-last.ensures p _ _ c.month_at-month.ensures.month c.month_at.ensures.month)

@@ -3,7 +3,7 @@ use Prim.Native.Nat.{◌+◌, ◌-◌, ◌*◌, ◌^◌, ◌≤◌, ◌<◌}
 use mathlib.Core.Path.{sym, ap, ◌∙◌}
 use native.Mathlib.Omega.{arith}
 use lib.IntN.{nat_abs}
-use lib.ListN.{length}
+use lib.ListN.{length, get_or}
 use Rattle.money.specs.Exact.{value_of}
 use Rattle.money.proofs.ExactWords.{of_bits_small}
 use Rattle.twelve.proofs.Adding.{Adding, adding_none, adding_past, adding_more, adding_small, adding_within, adding_end}
@@ -22,7 +22,7 @@ is_marked-requires c = omega (arith, inside (goal.at.is_marked-requires c).In-lo
 read_small : (c : After-widened-sum) → nat_abs (value_of c.widened-sum.result) ≤ 2 ^ 63
 read_small c =
     let a = c.args in
-    omega (arith, ap nat_abs c.widened-sum.ensures, of_bits_small _ (c.shared_slice_known-then-is_marked-1.given ((c.loop-date.date - a.base) * 2 + 1)).fits)
+    omega (arith, ap nat_abs c.widened-sum.ensures, of_bits_small (get_or a.table.now ((c.loop-date.date - a.base) * 2 + 1) 0) (search rules))
 
 pub add-total-requires : goal.add-total-requires
 add-total-requires c = (adding_small _ _ c.loop-date.invariant, omega (arith, read_small (goal.at.add-total-requires c).After-widened-sum))
@@ -36,7 +36,10 @@ pub loop-date-preserved : goal.loop-date-preserved
 loop-date-preserved c = adding_past _ _ c.loop-date.invariant c.loop-date-test.true c.requires.latest (sym c.is_marked.ensures ∙ c.if-is_marked.false)
 
 pub returns : goal.returns
-returns c = (adding_end _ _ c.loop-date.invariant c.loop-date-test.false, adding_within _ _ c.loop-date.invariant)
+returns c = record {
+  sum = adding_end _ _ c.loop-date.invariant c.loop-date-test.false;
+  small = adding_within _ _ c.loop-date.invariant;
+}
 
 pub loop-date-init : goal.loop-date-init
 loop-date-init c = adding_none _ _ _ _

@@ -20,7 +20,10 @@ pub returns : goal.returns
 returns c =
     let a = c.args in
     let sum = c.sum_between.ensures in
-    (sum.0 ∙ month_sum_lem a.table.now a.reach (january2000 + a.i) _ _ (omega (arith, c.later-first.ensures, c.first_day.ensures)) (omega (arith, c.earlier-last.ensures, c.last_day.ensures)), sum.1)
+    record {
+      sum = sum.sum ∙ month_sum_lem a.table.now a.reach (january2000 + a.i) _ _ (omega (arith, c.later-first.ensures, c.first_day.ensures)) (omega (arith, c.earlier-last.ensures, c.last_day.ensures));
+      small = sum.small;
+    }
 
 pub first_day-requires : goal.first_day-requires
 first_day-requires c = (c.requires.days_value, c.requires.has_reach.1)

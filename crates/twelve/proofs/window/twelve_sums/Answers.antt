@@ -21,26 +21,37 @@ inside c = omega (arith, c.loop-k-test.true, c.loop-k.invariant.long)
 pub slide-window-requires : goal.slide-window-requires
 slide-window-requires c =
     let w = c.loop-k.invariant in
-    (c.requires.days_value, ((c.requires.has_reach.0, c.requires.has_reach.1.starts), ((omega arith, omega (arith, inside (goal.at.slide-window-requires c).In-loop-k, c.requires.has_reach.1.most)), (w.at, w.small))))
+    record {
+      days_value = c.requires.days_value;
+      has_reach = (c.requires.has_reach.0, c.requires.has_reach.1.starts);
+      first_le_month = (omega arith, omega (arith, inside (goal.at.slide-window-requires c).In-loop-k, c.requires.has_reach.1.most));
+      window_value = (w.at, w.small);
+    }
 
 pub returns-then-not-is_word : goal.returns-then-not-is_word
 returns-then-not-is_word c =
-    (sym (summing_fails _ _ _ c.requires.has_reach.1 (inside (goal.at.returns-then-not-is_word c).In-loop-k) c.slide-window.ensures.sum (sym c.before.is_IsWord.ensures ∙ not-true _ c.if-not-is_word.true)), λ e. absurd (true≢false (sym e)))
+    record {
+      words = sym (summing_fails _ _ _ c.requires.has_reach.1 (inside (goal.at.returns-then-not-is_word c).In-loop-k) c.slide-window.ensures.sum (sym c.is_word.ensures ∙ c.if-not-is_word.true));
+      filled = λ e. absurd (true≢false (sym e));
+    }
 
 -- where the loop goes on, the sum is of 64 bits
 word : (c : Else-not-is_word) → is_word (value_of c.slide-window.result) ≡ true
-word c = sym c.before.is_IsWord.ensures ∙ not-false _ c.if-not-is_word.false
+word c = sym c.is_word.ensures ∙ c.if-not-is_word.false
 
 pub loop-k-preserved : goal.loop-k-preserved
 loop-k-preserved c =
     let slid = c.slide-window.ensures in
-    summing_more _ _ _ c.requires.has_reach.1 c.loop-k.invariant (inside (goal.at.loop-k-preserved c).In-loop-k) slid.0 slid.1 (word (goal.at.loop-k-preserved c).Else-not-is_word)
+    summing_more _ _ _ c.requires.has_reach.1 c.loop-k.invariant (inside (goal.at.loop-k-preserved c).In-loop-k) slid.sum slid.small (word (goal.at.loop-k-preserved c).Else-not-is_word)
     (ap (set c.loop-k.sums c.loop-k.k) (back w64 c.narrowed.result c.narrowed.type_inv ∙ c.narrowed.ensures))
 
 pub returns : goal.returns
 returns c =
     let w = c.loop-k.invariant in
-    (sym (summing_words _ _ _ c.requires.has_reach.1 w (omega (arith, w.long))), λ e. summing_filled _ _ _ c.requires.has_reach.1 w (omega (arith, w.long)))
+    record {
+      words = sym (summing_words _ _ _ c.requires.has_reach.1 w (omega (arith, w.long)));
+      filled = λ e. summing_filled _ _ _ c.requires.has_reach.1 w (omega (arith, w.long));
+    }
 
 pub loop-k-init : goal.loop-k-init
 loop-k-init c = summing_none _ _ _ c.requires.has_reach.1 _ refl
@@ -52,7 +63,7 @@ pub shape_of-sums-then-not-is_word : goal.shape_of-sums-then-not-is_word
 shape_of-sums-then-not-is_word c = c.loop-k.invariant.long
 
 pub narrowed-requires : goal.narrowed-requires
-narrowed-requires c = word c
+narrowed-requires c = word (goal.at.narrowed-requires c).Else-not-is_word
 
 pub bounds-sums-k : goal.bounds-sums-k
 bounds-sums-k c = omega (arith, c.loop-k-test.true)

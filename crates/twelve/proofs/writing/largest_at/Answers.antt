@@ -9,20 +9,21 @@ use Rattle.twelve.specs.Largest.{sum_at, IsLargestAt}
 use Rattle.twelve.proofs.Largest.{largest_first, largest_kept, largest_next}
 use borrow.Author.Rules.{rules}
 use Rattle.twelve.proofs.writing.largest_at.Goals as goal
-use Rattle.twelve.proofs.writing.largest_at.Goals.{After-t10-1}
 
 -- what the test compares are the two sums
-largest_is : (c : After-t10-1) → seen w64 (sum_at c.args.sums.now c.loop-k.largest) ≡ sum_at c.args.sums.now c.loop-k.largest
-largest_is c = back w64 (sum_at c.args.sums.now c.loop-k.largest) c.t7-1.given
-
-next_is : (c : After-t10-1) → seen w64 (sum_at c.args.sums.now c.loop-k.k) ≡ sum_at c.args.sums.now c.loop-k.k
-next_is c = back w64 (sum_at c.args.sums.now c.loop-k.k) c.t10-1.given
-
 pub loop-k-preserved-then-sums-largest : goal.loop-k-preserved-then-sums-largest
-loop-k-preserved-then-sums-largest c = (omega arith, largest_next c.loop-k.invariant.1 (omega (linear, c.if-sums-largest.true, largest_is (goal.at.loop-k-preserved-then-sums-largest c).After-t10-1, next_is (goal.at.loop-k-preserved-then-sums-largest c).After-t10-1)))
+loop-k-preserved-then-sums-largest c =
+    let sums = c.args.sums.now in
+    let best = back w64 (sum_at sums c.loop-k.largest) (search rules) in
+    let next = back w64 (sum_at sums c.loop-k.k) (search rules) in
+    (omega arith, largest_next c.loop-k.invariant.1 (omega (linear, c.if-sums-largest.true, best, next)))
 
 pub loop-k-preserved : goal.loop-k-preserved
-loop-k-preserved c = (omega arith, largest_kept c.loop-k.invariant.1 (omega (linear, c.if-sums-largest.false, largest_is (goal.at.loop-k-preserved c).After-t10-1, next_is (goal.at.loop-k-preserved c).After-t10-1)))
+loop-k-preserved c =
+    let sums = c.args.sums.now in
+    let best = back w64 (sum_at sums c.loop-k.largest) (search rules) in
+    let next = back w64 (sum_at sums c.loop-k.k) (search rules) in
+    (omega arith, largest_kept c.loop-k.invariant.1 (omega (linear, c.if-sums-largest.false, best, next)))
 
 pub returns : goal.returns
 returns c = let all : c.loop-k.k ≡ length c.args.sums.now = omega (arith, c.loop-k.invariant.0) in rw (← all) c.loop-k.invariant.1

@@ -26,4 +26,4 @@ pub slice_bounds-put_months-end-2 : goal.slice_bounds-put_months-end-2
 slice_bounds-put_months-end-2 c = sym (length-take-le _ _ c.if-out-n.false)
 
 pub put_months-requires : goal.put_months-requires
-put_months-requires c = (c.requires.days_value, (c.requires.sums_bound.0, length-take-le _ _ c.if-out-n.false))
+put_months-requires c = record { days_value = c.requires.days_value; sums_bound = (c.requires.sums_bound.0, length-take-le _ _ c.if-out-n.false) }

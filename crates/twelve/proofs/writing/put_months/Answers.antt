@@ -23,9 +23,9 @@ loop-k-init c =
 pub loop-k-preserved : goal.loop-k-preserved
 loop-k-preserved c =
     let a = c.args in (
-      c.out-1.given ∙ c.loop-k.invariant.0,
+      c.put_month.auto.out ∙ c.loop-k.invariant.0,
       rows_more twelve_width _ (row_wide a.first a.largest a.sums.now) _ c.loop-k.invariant.1 c.loop-k-test.true (omega arith)
-          (c.put_month.ensures ∙ ap (sets c.loop-k.out (c.loop-k.k * twelve_width)) (row_put a.first a.largest a.sums.now c.loop-k.k c.first_day-day.ensures (back w64 (sum_at a.sums.now c.loop-k.k) c.sum-1.given) (mark_is (eqb c.loop-k.k a.largest)))),
+          (c.put_month.ensures ∙ ap (sets c.loop-k.out (c.loop-k.k * twelve_width)) (row_put a.first a.largest a.sums.now c.loop-k.k c.first_day-day.ensures (back w64 (sum_at a.sums.now c.loop-k.k) (search rules)) (mark_is (eqb c.loop-k.k a.largest)))),
     )
 
 pub returns : goal.returns

@@ -1,11 +1,11 @@
 -- `write_listed` meets its contract: the array is lent as far as there are months.
 use native.Mathlib.Omega.{arith}
+use Prim.Native.Nat.{◌≤◌}
 use lib.IntN.{pos}
 use Rattle.bydate.proofs.Arrays.{front_long}
 use Rattle.twelve.proofs.Windows.{listed_long_lem}
 use borrow.Author.Rules.{rules}
 use Rattle.twelve.proofs.writing.write_listed.Goals as goal
-use Rattle.twelve.proofs.writing.write_listed.Goals.{After-sums-1, After-sums-2-1}
 
 pub slice_bounds-write_sums-end : goal.slice_bounds-write_sums-end
 slice_bounds-write_sums-end c = front_long 60 (pos 0) _ c.if-count-le60.true
@@ -13,18 +13,21 @@ slice_bounds-write_sums-end c = front_long 60 (pos 0) _ c.if-count-le60.true
 pub write_sums-requires : goal.write_sums-requires
 write_sums-requires c =
     let w = c.requires in
-    (w.0, ((w.1.0.0, listed_long_lem w.1.0.1 (slice_bounds-write_sums-end (goal.at.write_sums-requires c).After-sums-1)), omega (arith, w.1.1, slice_bounds-write_sums-end (goal.at.write_sums-requires c).After-sums-1)))
+    let long = front_long 60 (pos 0) _ c.if-count-le60.true in
+    record { days_value = w.days_value; has_reach = (w.has_reach.0, listed_long_lem w.has_reach.1 long); sums_nonzero = omega (arith, w.count_nonzero, long) }
 
 pub slice_bounds-write_sums-end-2 : goal.slice_bounds-write_sums-end-2
-slice_bounds-write_sums-end-2 c = front_long 1200 (pos 0) _ (omega (arith, c.requires.has_reach.0.1.most))
+slice_bounds-write_sums-end-2 c = front_long 1200 (pos 0) _ (omega (arith, c.requires.has_reach.1.most))
 
 pub write_sums-requires-2 : goal.write_sums-requires-2
 write_sums-requires-2 c =
     let w = c.requires in
-    (w.0, ((w.1.0.0, listed_long_lem w.1.0.1 (slice_bounds-write_sums-end-2 (goal.at.write_sums-requires-2 c).After-sums-2-1)), omega (arith, w.1.1, slice_bounds-write_sums-end-2 (goal.at.write_sums-requires-2 c).After-sums-2-1)))
+    let most : c.args.listed.count ≤ 1200 = omega (arith, w.has_reach.1.most) in
+    let long = front_long 1200 (pos 0) _ most in
+    record { days_value = w.days_value; has_reach = (w.has_reach.0, listed_long_lem w.has_reach.1 long); sums_nonzero = omega (arith, w.count_nonzero, long) }
 
 pub slice_bounds-sums-end : goal.slice_bounds-sums-end
 slice_bounds-sums-end c = c.if-count-le60.true
 
 pub slice_bounds-sums-end-2 : goal.slice_bounds-sums-end-2
-slice_bounds-sums-end-2 c = omega (arith, c.requires.has_reach.0.1.most)
+slice_bounds-sums-end-2 c = omega (arith, c.requires.has_reach.1.most)

@@ -8,14 +8,14 @@ use Rattle.twelve.proofs.Windows.{listed_long_lem}
 use Rattle.twelve.proofs.writing.write_sums.Goals as goal
 
 pub returns-then-not-twelve_sums : goal.returns-then-not-twelve_sums
-returns-then-not-twelve_sums c = puts_failed (sym c.twelve_sums.ensures.words ∙ not-true _ c.if-not-twelve_sums.true)
+returns-then-not-twelve_sums c = puts_failed (sym c.twelve_sums.ensures.words ∙ c.if-not-twelve_sums.true)
 
 pub put_fitting-requires : goal.put_fitting-requires
 put_fitting-requires c =
-    let long = c.sums-1.given in
-    (c.requires.days_value, (omega (arith, c.requires.has_reach.0.1.most, long), omega (arith, c.requires.has_reach.1, long)))
+    let long = c.twelve_sums.auto.sums in
+    record { days_value = c.requires.days_value; sums_bound = (omega (arith, c.requires.has_reach.1.most, long), omega (arith, c.requires.sums_nonzero, long)) }
 
 pub returns : goal.returns
 returns c =
     let summed = c.twelve_sums.ensures in
-    puts_if (sym summed.0 ∙ not-false _ c.if-not-twelve_sums.false) (c.put_fitting.ensures _ (listed_long_lem c.requires.has_reach.0.1 (sym c.sums-1.given)) (summed.1 (not-false _ c.if-not-twelve_sums.false)))
+    puts_if (sym summed.words ∙ c.if-not-twelve_sums.false) (c.put_fitting.ensures _ (listed_long_lem c.requires.has_reach.1 (sym c.twelve_sums.auto.sums)) (summed.filled c.if-not-twelve_sums.false))

@@ -13,7 +13,7 @@ returns-then-listed-eq0 c =
 
 pub write_listed-requires : goal.write_listed-requires
 write_listed-requires c =
-    (c.first_days-days.ensures, ((c.requires, c.listed_months-listed.ensures), omega (arith, c.if-listed-eq0.false)))
+    record { days_value = c.first_days-days.ensures; has_reach = (c.requires, c.listed_months-listed.ensures); count_nonzero = omega (arith, c.if-listed-eq0.false) }
 
 pub listed_months-listed-requires : goal.listed_months-listed-requires
-listed_months-listed-requires c = (c.first_days-days.ensures, c.requires)
+listed_months-listed-requires c = record { days_value = c.first_days-days.ensures; has_reach = c.requires }
