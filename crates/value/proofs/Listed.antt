@@ -7,7 +7,7 @@ use lib.IntN.{ℤ}
 use lib.ListN.{length}
 use Rattle.lists.specs.Lists.{span}
 use Rattle.lists.proofs.Spans.{span_in_lem, elements}
-use Rattle.flat.proofs.Tables.{flat_same, flat_map}
+use Rattle.flat.proofs.Tables.{flat_same, flat_map_map}
 use Rattle.format.specs.Book.{Book}
 use Rattle.model.specs.declared.Earned.{Earned}
 use Rattle.model.specs.Tree.{Parents, parents}
@@ -39,7 +39,7 @@ module _ (b : Book) (date : ℕ) {table : List ℤ} {lines : List ℕ} {count : 
       let xs = outline (parents b) in
       flat_same (outlined_in table lines) (λ k. outline_row date b (line_at xs k)) (span 0 count) (λ k m. let h = span_in_lem 0 count k m in row_is k (omega arith))
       ∙ ap (λ (n : ℕ). flat_map (λ k. outline_row date b (line_at xs k)) (span 0 n)) s.counted
-      ∙ sym (flat_map (outline_row date b) (line_at xs) (span 0 (length xs)))
+      ∙ sym (flat_map_map (outline_row date b) (line_at xs) (span 0 (length xs)))
       ∙ ap (flat_map (outline_row date b)) (elements xs (line 0 0))
       ∙ sym (numbers_flat (outline_row date b) xs)
 

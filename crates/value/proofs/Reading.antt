@@ -17,7 +17,7 @@ use Rattle.model.specs.Tree.{parents, indices}
 use Rattle.model.specs.Earned.{earned_at, earned_value, spent_in}
 use Rattle.lists.proofs.Spans.{span_in_lem}
 use Rattle.flat.proofs.Sets.{sets_on}
-use Rattle.flat.proofs.Tables.{flat_same, flat_map}
+use Rattle.flat.proofs.Tables.{flat_same, flat_map_map}
 use Rattle.tree.specs.Figures.{figure_of}
 use Rattle.tree.specs.Tables.{earned_figures, rolled_values}
 use Rattle.flat.proofs.Spans.{rows_at}
@@ -78,7 +78,7 @@ module _ (b : Book) (date : ℕ) (n : ℕ) (count : length b.activities ≡ n) {
   rows_read =
       flat_same (λ i. earned_row (earned_in table i)) (λ i. earned_row (earned_at b date i)) (span 0 n) (λ i m. let k = span_in_lem 0 n i m in ap earned_row (rolled_read i (omega arith)))
       ∙ ap (λ (k : ℕ). flat_map (λ i. earned_row (earned_at b date i)) (span 0 k)) (sym parents_are)
-      ∙ sym (flat_map earned_row (earned_at b date) (indices (parents b)))
+      ∙ sym (flat_map_map earned_row (earned_at b date) (indices (parents b)))
       ∙ sym (numbers_flat earned_row (map (earned_at b date) (indices (parents b))))
 
 -- ---- the rows of the outline

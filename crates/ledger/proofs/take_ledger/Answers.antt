@@ -19,8 +19,8 @@ returns c =
     let n = c.args.activities in
     let listed = c.requires.budgets.0 in
     let logged = c.requires.budgets.1 in
-    let figures = log.0 ∙ ap (λ (t : List ℤ). foldl change_taken t b.log) (budgets.0 ∙ ap (λ (t : List ℤ). foldl budget_taken t b.budgets) c.requires.accounts_value.0) in
-    let marks = log.1 ∙ ap (λ (m : List ℕ). foldl (marked_by change_place) m b.log) (budgets.1 ∙ ap (λ (m : List ℕ). foldl (marked_by budget_place) m b.budgets) c.requires.accounts_value.1) in
+    let figures = log.table ∙ ap (λ (t : List ℤ). foldl change_taken t b.log) (budgets.table ∙ ap (λ (t : List ℤ). foldl budget_taken t b.budgets) c.requires.accounts_value.0) in
+    let marks = log.named ∙ ap (λ (m : List ℕ). foldl (marked_by change_place) m b.log) (budgets.named ∙ ap (λ (m : List ℕ). foldl (marked_by budget_place) m b.budgets) c.requires.accounts_value.1) in
     record {
       table = figures ∙ all_booked b n listed.most listed.ranges listed.named logged.ranges;
       long = ap length marks ∙ named_length b;

@@ -24,7 +24,6 @@ returns-in-Undefined c =
 
 pub returns-in-Of : goal.returns-in-Of
 returns-in-Of c =
-    let known = c.share-1.given in
-    ap some (c.to_bits.ensures ∙ ap bits (back w64 known.0.0 c.in-Of.known_told-1-own.given.0.1))
-    ∙ ap (λ (x : SpentShare). map bits (share_option x)) (sym known.1)
+    ap some (c.to_bits.ensures ∙ ap bits (back w64 c.in-Of.share c.in-Of.known_told-1-own.given.0.1))
+    ∙ ap (λ (x : SpentShare). map bits (share_option x)) (sym c.in-Of.is)
     ∙ ap (map bits) (share (goal.at.returns-in-Of c).After-spent)

@@ -5,4 +5,7 @@ use Rattle.budget.proofs.lines.read_activities.Goals as goal
 
 pub returns : goal.returns
 returns c =
-    (c.fill_schedule.ensures, c.copy_parents.ensures (content c.args.book.now) c.fill_schedule.ensures)
+    record {
+      read = c.fill_schedule.ensures;
+      above = c.copy_parents.ensures (content c.args.book.now) c.fill_schedule.ensures;
+    }

@@ -23,9 +23,9 @@ leaf_row_sum-requires c =
 
 pub returns : goal.returns
 returns c =
-    let book = content c.args.book.now in (
-      c.rolled_costs.ensures,
-      back w64 c.leaf_row_sum.result c.leaf_row_sum.type_inv
+    let book = content c.args.book.now in record {
+      each = c.rolled_costs.ensures;
+      whole = back w64 c.leaf_row_sum.result c.leaf_row_sum.type_inv
           ∙ c.leaf_row_sum.ensures
-          ∙ rolled_leaves book c.rolled_costs.ensures c.parent_marks-leaves.result (c.parent_marks-leaves.ensures book c.requires.schedule_value.0) 0 (omega arith),
-    )
+          ∙ rolled_leaves book c.rolled_costs.ensures c.parent_marks-leaves.result (c.parent_marks-leaves.ensures book c.requires.schedule_value.0) 0 (omega arith);
+    }

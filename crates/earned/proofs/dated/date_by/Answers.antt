@@ -7,15 +7,16 @@ use Rattle.planned.proofs.Reaching.{reach_calendars, reach_tabled, reach_days}
 use Rattle.earned.proofs.dated.date_by.Goals as goal
 
 pub fill_all-requires : goal.fill_all-requires
-fill_all-requires c = let s = c.requires in (s.0.covers.most, (s.1.0, reach_calendars s.0))
+fill_all-requires c = let s = c.requires in record { to_bound = s.reach.covers.most; from_in_bounds = s.known_in_bounds; every = reach_calendars s.reach }
 
 pub put_planned-requires : goal.put_planned-requires
 put_planned-requires c =
-    let reach = c.requires.reach in (
-      (reach.covers.ahead, reach.covers.most),
-      (reach_tabled reach (omega (arith, c.requires.known_in_bounds.0, c.days-1.given)), omega (arith, c.requires.known_in_bounds.1.long, budgets_long_lem (content c.args.book.now) reach.budgeted)),
-    )
+    let reach = c.requires.reach in record {
+      from_bound = (reach.covers.ahead, reach.covers.most);
+      are_tabled = reach_tabled reach (omega (arith, c.requires.known_in_bounds, c.days-1.given));
+      out_len = omega (arith, c.requires.measured.long, budgets_long_lem (content c.args.book.now) reach.budgeted);
+    }
 
 pub returns : goal.returns
 returns c =
-    c.put_planned.ensures (content c.args.book.now) (reach_days c.requires.reach (omega (arith, c.requires.known_in_bounds.0, c.days-1.given)) c.fill_all.ensures) c.requires.known_in_bounds.1
+    c.put_planned.ensures (content c.args.book.now) (reach_days c.requires.reach (omega (arith, c.requires.known_in_bounds, c.days-1.given)) c.fill_all.ensures) c.requires.measured

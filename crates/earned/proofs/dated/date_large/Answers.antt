@@ -5,4 +5,4 @@ use Rattle.planned.proofs.Reaching.{reach_full}
 use Rattle.earned.proofs.dated.date_large.Goals as goal
 
 pub date_by-requires : goal.date_by-requires
-date_by-requires c = let s = c.requires in (s.0, (omega (arith, reach_full s.0, c.date_by-arg-1.given), s.1))
+date_by-requires c = let s = c.requires in record { reach = s.reach; known_in_bounds = omega (arith, reach_full s.reach, c.date_by-arg-1.given); measured = s.measured }

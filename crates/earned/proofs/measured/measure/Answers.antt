@@ -13,20 +13,20 @@ use Rattle.earned.proofs.measured.measure.Goals as goal
 use Rattle.earned.proofs.measured.measure.Goals.{Start}
 
 counted : (s : Start) → length s.args.budgets.now ≡ s.args.opened.plan.activities.count
-counted s = budgets_long_lem (content s.args.book.now) s.requires.1.0.2 ∙ activities_count s.requires.0.plan
+counted s = budgets_long_lem (content s.args.book.now) s.requires.schedule_value.2 ∙ activities_count s.requires.opened.plan
 
 most : (s : Start) → length s.args.budgets.now ≤ 500
-most s = omega (arith, counted s, activities_most s.requires.0.plan)
+most s = omega (arith, counted s, activities_most s.requires.opened.plan)
 
 pub measure_by-requires : goal.measure_by-requires
 measure_by-requires c =
     let room : length c.args.budgets.now * 2 ≤ 64 = omega (arith, c.if-n-le-FEW.true) in
-    (c.requires.opened, (c.requires.schedule_value.0, (length-take-le _ _ room ∙ omega (arith, counted (goal.at.measure_by-requires c).Start), nothing_taken (length c.args.budgets.now * 2) 64, c.requires.schedule_value.1)))
+    record { opened = c.requires.opened; schedule_value = c.requires.schedule_value; units_len = (length-take-le _ _ room ∙ omega (arith, counted (goal.at.measure_by-requires c).Start), nothing_taken (length c.args.budgets.now * 2) 64, c.requires.out_len) }
 
 pub measure_by-requires-2 : goal.measure_by-requires-2
 measure_by-requires-2 c =
     let room : length c.args.budgets.now * 2 ≤ 1000 = omega (arith, most (goal.at.measure_by-requires-2 c).Start) in
-    (c.requires.opened, (c.requires.schedule_value.0, (length-take-le _ _ room ∙ omega (arith, counted (goal.at.measure_by-requires-2 c).Start), nothing_taken (length c.args.budgets.now * 2) 1000, c.requires.schedule_value.1)))
+    record { opened = c.requires.opened; schedule_value = c.requires.schedule_value; units_len = (length-take-le _ _ room ∙ omega (arith, counted (goal.at.measure_by-requires-2 c).Start), nothing_taken (length c.args.budgets.now * 2) 1000, c.requires.out_len) }
 
 pub overflow_mul-units : goal.overflow_mul-units
 overflow_mul-units c = omega (arith, c.if-n-le-FEW.true)

@@ -25,7 +25,7 @@ loop-i-init c = (c.requires.schedule_len.3, rows_none 5 _ (λ i. refl) _ _ c.req
 
 pub leaf_earned-value-requires : goal.leaf_earned-value-requires
 leaf_earned-value-requires c =
-    ((omega arith, omega arith), c.requires.by_index c.loop-i.i c.loop-i-test.true)
+    record { i_in_bounds = (omega arith, omega arith); minutes = c.requires.by_index c.loop-i.i c.loop-i-test.true }
 
 pub leaf_cost-actual-requires : goal.leaf_cost-actual-requires
 leaf_cost-actual-requires c = omega arith

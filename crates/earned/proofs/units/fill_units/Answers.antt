@@ -10,8 +10,10 @@ use Rattle.earned.proofs.units.fill_units.Goals as goal
 
 pub add_assignments-requires : goal.add_assignments-requires
 add_assignments-requires c =
-    let plan = c.args.plan in
-    (subst (Every (AssignmentInRange plan.activities.count plan.resources.count)) c.requires.plan_of.assignments.listed (assignments_in_range c.requires.plan_of), c.requires.out_len)
+    let plan = c.args.plan in record {
+      every = subst (Every (AssignmentInRange plan.activities.count plan.resources.count)) c.requires.plan_of.assignments.listed (assignments_in_range c.requires.plan_of);
+      out_len = c.requires.out_len;
+    }
 
 pub returns-then-counts_units : goal.returns-then-counts_units
 returns-then-counts_units c =

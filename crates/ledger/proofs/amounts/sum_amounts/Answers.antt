@@ -15,16 +15,8 @@ use Rattle.sections.specs.Sections.{elements}
 use Rattle.tree.specs.Figures.{saturating_add}
 use Rattle.ledger.proofs.Reading.{Reading, reading_none, reading_more, reading_next, reading_end}
 use borrow.Author.Rules.{rules}
+use Rattle.ledger.proofs.amounts.sum_amounts.Invariants.{listed}
 use Rattle.ledger.proofs.amounts.sum_amounts.Goals as goal
-
-abbrev listed : List ℕ → ℕ → Pos → List ℤ
-listed book count first = ((alike count amount).read book first).0
-
--- the sum so far, with what is left, is the whole
-abbrev Along : List ℕ → ℕ → Pos → ℕ → ℕ → Pos → Type 0
-Along book count first sum i next =
-    Reading (λ (x : Unit {0}). amount) stay book (listed book count first) count i tt next
-    × (saturated w64 (to_z w64 sum) (drop i (listed book count first)) ≡ saturated w64 (pos 0) (listed book count first))
 
 pub loop-i-init : goal.loop-i-init
 unfolding elements
@@ -41,8 +33,8 @@ loop-i-preserved c =
       ap (λ (z : ℤ). saturated w64 z (drop (l.i + 1) (listed c.args.book.now c.args.list.count c.args.list.first)))
           (back w64 c.saturating_add-sum.result c.saturating_add-sum.type_inv
           ∙ c.saturating_add-sum.ensures
-          ∙ ap (saturating_add (to_z w64 l.sum)) (back w64 c.amount-a.result.value c.struct_told-1.given.0.1))
-          ∙ sym (ap (saturated w64 (to_z w64 l.sum)) e)
+          ∙ ap (saturating_add (to_z w64 l.sum-bits)) (back w64 c.amount-a.result.value c.struct_told-1.given.0.1))
+          ∙ sym (ap (saturated w64 (to_z w64 l.sum-bits)) e)
           ∙ l.invariant.1,
     )
 
@@ -50,4 +42,4 @@ pub returns : goal.returns
 unfolding elements saturated
 returns c =
     let l = c.loop-i in
-    sym (ap (saturated w64 (to_z w64 l.sum)) (reading_end l.invariant.0 c.loop-i-test.false)) ∙ l.invariant.1
+    sym (ap (saturated w64 (to_z w64 l.sum-bits)) (reading_end l.invariant.0 c.loop-i-test.false)) ∙ l.invariant.1

@@ -17,6 +17,15 @@ use Rattle.ledger.proofs.Reading.{Reading, reading_none, reading_more, reading_n
 use borrow.Author.Rules.{rules}
 use Rattle.ledger.proofs.amounts.sum_amounts.Given as goal
 
+abbrev pub listed : List ℕ → ℕ → Pos → List ℤ
+listed book count first = ((alike count amount).read book first).0
+
+-- the sum so far, with what is left, is the whole
+abbrev pub Along : List ℕ → ℕ → Pos → ℤ → ℕ → Pos → Type 0
+Along book count first sum i next =
+    Reading (λ (x : Unit {0}). amount) stay book (listed book count first) count i tt next
+    × (saturated w64 sum (drop i (listed book count first)) ≡ saturated w64 (pos 0) (listed book count first))
+
 abbrev pub invariant-loop-i : goal.invariant-loop-i
 invariant-loop-i l = Along l.book l.count l.initial.next l.sum l.i l.next
 

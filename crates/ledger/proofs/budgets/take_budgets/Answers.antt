@@ -32,4 +32,4 @@ pub returns : goal.returns
 returns c =
     let l = c.loop-i in
     let all = naming_end l.invariant.0 c.loop-i-test.false in
-    (folded_end l.invariant.1 all, folded_end l.invariant.2 all)
+    record { table = folded_end l.invariant.1 all; named = folded_end l.invariant.2 all }

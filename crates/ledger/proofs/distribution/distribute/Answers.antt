@@ -30,10 +30,15 @@ loop-i-preserved c =
     elim c.if-marks-i-ne0.branch [
       | then-marks-i-ne0 w ↦ (
         omega arith,
-        giving_more l.invariant.1 more (ap not (ne_eqb _ _ w.0.taken))
-            (w.6 ∙ w.5.ensures ∙ ap (λ (z : ℤ). add_at z l.accounts (k * 6 + 5)) (back w64 w.2.result w.2.ok ∙ w.2.ensures ∙ l.invariant.1.same l.i)),
+        giving_more l.invariant.1 more (ap not (ne_eqb _ _ w.if-marks-i-ne0.true))
+            (w.accounts-is
+            ∙ w.add_figure.ensures
+            ∙ ap (λ (z : ℤ). add_at z l.accounts (k * 6 + 5)) (back w64 w.current-given.result w.current-given.type_inv ∙ w.current-given.ensures ∙ l.invariant.1.same l.i)),
       )
-      | else-marks-i-ne0 w ↦ (omega arith, subst (Giving c.args.parents.now c.args.marks.now c.args.accounts.now (l.i + 1)) (sym w.1) (giving_past l.invariant.1 more (ap not (eq-eqb _ _ w.0.left))))
+      | else-marks-i-ne0 w ↦ (
+        omega arith,
+        subst (Giving c.args.parents.now c.args.marks.now c.args.accounts.now (l.i + 1)) (sym w.accounts-is) (giving_past l.invariant.1 more (ap not (eq-eqb _ _ w.if-marks-i-ne0.false))),
+      )
     ]
 
 pub returns : goal.returns

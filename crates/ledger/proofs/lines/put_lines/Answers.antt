@@ -45,31 +45,31 @@ put_line-requires c =
     let l = c.loop-i in
     writing_room l.invariant (ap (map _) (onward_taken _ _ l.i c.loop-i-test.true (ap not (ne_eqb _ _ c.if-marks-i-ne0.true))))
 
-abbrev start : (l : At-loop-i) → Start
-start l = l.before.before.before.before.before.before.before
-
--- what is lent keeps its length
-full : (l : At-loop-i) → length l.loop.out ≡ length (start l).args.out.now
-unfolding lines_in
-full l = writing_length l.loop.invariant ∙ flat_length 10 budget_row row_long _ ∙ sym (start l).requires.1
-
 pub overflow_add-at : goal.overflow_add-at
+unfolding lines_in
 overflow_add-at c =
     let l = c.loop-i in
-    omega (arith, writing_room l.invariant (ap (map _) (onward_taken _ _ l.i c.loop-i-test.true (ap not (ne_eqb _ _ c.if-marks-i-ne0.true)))), full (goal.at.overflow_add-at c).In-loop-i, (start (goal.at.overflow_add-at c).In-loop-i).well_formed.1.1.1.1.1.0)
+    let full : length l.out ≡ length c.args.out.now = writing_length l.invariant ∙ flat_length 10 budget_row row_long _ ∙ sym c.requires.out_len in
+    omega (arith, writing_room l.invariant (ap (map _) (onward_taken _ _ l.i c.loop-i-test.true (ap not (ne_eqb _ _ c.if-marks-i-ne0.true)))), full)
 
 pub loop-i-preserved : goal.loop-i-preserved
 loop-i-preserved c =
     let l = c.loop-i in
     let more = c.loop-i-test.true in
-    elim c.if-marks-i-ne0.branch [ then-marks-i-ne0 w ↦ writing_more l.invariant (ap (map _) (onward_taken _ _ l.i more (ap not (ne_eqb _ _ w.0.taken)))) (row_long _) w.7 (w.6 ∙ w.3.ensures ∙ ap (λ (x : BudgetLine). sets l.out l.at (budget_row x)) w.1.ensures) | else-marks-i-ne0 w ↦ writing_past l.invariant (ap (map _) (onward_passed _ _ l.i more (ap not (eq-eqb _ _ w.0.left)))) w.2 w.true_is ]
+    elim c.if-marks-i-ne0.branch [
+      | then-marks-i-ne0 w ↦
+          writing_more l.invariant (ap (map _) (onward_taken _ _ l.i more (ap not (ne_eqb _ _ w.if-marks-i-ne0.true)))) (row_long _) w.at-is
+          (w.out-is ∙ w.put_line.ensures ∙ ap (λ (x : BudgetLine). sets l.out l.at (budget_row x)) w.line_of-line.ensures)
+      | else-marks-i-ne0 w ↦ writing_past l.invariant (ap (map _) (onward_passed _ _ l.i more (ap not (eq-eqb _ _ w.if-marks-i-ne0.false)))) w.at-is w.out-is
+    ]
 
 pub shape_of-out : goal.shape_of-out
-shape_of-out c = full (goal.at.shape_of-out c).At-loop-i
+unfolding lines_in
+shape_of-out c = writing_length c.loop-i.invariant ∙ flat_length 10 budget_row row_long _ ∙ sym c.requires.out_len
 
 pub returns : goal.returns
 returns c =
     let l = c.loop-i in
-    let s = start (goal.at.returns c).At-loop-i in
+    let a = c.args in
     writing_end l.invariant (ap (map _) (onward_end _ _ l.i c.loop-i-test.false))
-    ∙ ap (λ (z : ℤ). flat_map budget_row (lines_in s.args.accounts.now s.args.parents.now s.args.costs.now s.args.marks.now z)) (to_z-of_z s.fits.whole)
+    ∙ ap (λ (z : ℤ). flat_map budget_row (lines_in a.accounts.now a.parents.now a.costs.now a.marks.now z)) (to_z-of_z c.ranges.whole)

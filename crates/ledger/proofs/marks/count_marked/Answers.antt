@@ -21,7 +21,10 @@ loop-i-preserved c =
     let test = is_marked c.args.marks.now in
     let n = c.args.count in
     let more = c.loop-i-test.true in
-    elim c.if-marks-i-ne0.branch [ then-marks-i-ne0 w ↦ (omega arith, omega (arith, w.1, l.invariant.1), omega (arith, w.1, l.invariant.2, ap length (onward_taken test n l.i more (ap not (ne_eqb _ _ w.0.taken))))) | else-marks-i-ne0 w ↦ (omega arith, omega (arith, w.1, l.invariant.1), omega (arith, w.1, l.invariant.2, ap length (onward_passed test n l.i more (ap not (eq-eqb _ _ w.0.left))))) ]
+    elim c.if-marks-i-ne0.branch [
+      | then-marks-i-ne0 w ↦ (omega arith, omega arith, omega (arith, ap length (onward_taken test n l.i more (ap not (ne_eqb _ _ w.if-marks-i-ne0.true)))))
+      | else-marks-i-ne0 w ↦ (omega arith, omega arith, omega (arith, ap length (onward_passed test n l.i more (ap not (eq-eqb _ _ w.if-marks-i-ne0.false)))))
+    ]
 
 pub returns : goal.returns
 returns c =

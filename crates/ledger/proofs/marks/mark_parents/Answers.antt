@@ -22,7 +22,7 @@ loop-i-preserved c =
     let test = is_marked c.args.parents.now in
     let n = c.args.count in
     let next : List ℕ → List ℕ = λ (ms : List ℕ). foldl (marked_by (λ i. i)) ms (onward test n (l.i + 1)) in
-    elim c.if-parents-i-ne0.branch [ then-parents-i-ne0 w ↦ (omega arith, ap next w.1 ∙ sym (ap (foldl (marked_by (λ i. i)) l.marks) (onward_taken test n l.i more (ap not (ne_eqb _ _ w.0.taken)))) ∙ l.invariant.1) | else-parents-i-ne0 w ↦ (omega arith, ap next w.1 ∙ sym (ap (foldl (marked_by (λ i. i)) l.marks) (onward_passed test n l.i more (ap not (eq-eqb _ _ w.0.left)))) ∙ l.invariant.1) ]
+    elim c.if-parents-i-ne0.branch [ then-parents-i-ne0 w ↦ (omega arith, ap next w.marks-is ∙ sym (ap (foldl (marked_by (λ i. i)) l.marks) (onward_taken test n l.i more (ap not (ne_eqb _ _ w.if-parents-i-ne0.true)))) ∙ l.invariant.1) | else-parents-i-ne0 w ↦ (omega arith, ap next w.marks-is ∙ sym (ap (foldl (marked_by (λ i. i)) l.marks) (onward_passed test n l.i more (ap not (eq-eqb _ _ w.if-parents-i-ne0.false)))) ∙ l.invariant.1) ]
 
 pub returns : goal.returns
 returns c =

@@ -13,7 +13,7 @@ use Rattle.ledger.proofs.marks.mark_parents.Given as goal
 
 abbrev pub invariant-loop-i : goal.invariant-loop-i
 invariant-loop-i l =
-    (l.i ≤ l.count) × (foldl (marked_by (λ l.i. l.i)) l.marks (onward (is_marked l.parents) l.count l.i) ≡ foldl (marked_by (λ l.i. l.i)) l.initial.marks (marked_of l.parents l.count))
+    (l.i ≤ l.count) × (foldl (marked_by (λ i. i)) l.marks (onward (is_marked l.parents) l.count l.i) ≡ foldl (marked_by (λ i. i)) l.initial.marks (marked_of l.parents l.count))
 
 abbrev pub decreases-loop-i : goal.decreases-loop-i
 decreases-loop-i l = l.count - l.i

@@ -12,4 +12,7 @@ sized_dates-requires c =
     (s.0, ((phased.spanned, phased.budgeted), (phased.marked, s.1.1)))
 
 pub returns : goal.returns
-returns c = (c.phase-marks.ensures.marked, c.sized_dates.ensures)
+returns c = record {
+      marks = c.phase-marks.ensures.marked;
+      planned = c.sized_dates.ensures;
+    }

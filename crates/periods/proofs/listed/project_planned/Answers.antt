@@ -18,7 +18,10 @@ pub returns-then-n-eq0 : goal.returns-then-n-eq0
 returns-then-n-eq0 c =
     let b = content c.args.book.now in
     let none = activities_count c.requires.opened.plan ∙ c.if-n-eq0.true in
-    (λ i h. absurd (omega (arith, parents_count b, none)), c.clear.ensures b none)
+    record {
+      marks = λ i h. absurd (omega (arith, parents_count b, none));
+      planned = c.clear.ensures b none;
+    }
 
 pub slice_bounds-plan_dates-end : goal.slice_bounds-plan_dates-end
 slice_bounds-plan_dates-end c = front_long {A = ℕ} 96 0 _ (omega (arith, c.if-n-le-FEW.true))

@@ -20,10 +20,10 @@ pub returns : goal.returns
 returns c =
     let p = c.requires.opened.plan in
     let b = content c.args.book.now in
-    let named = c.copy_parents.ensures b c.own_values.ensures.schedule in (
-      named,
-      values_from b c.args.date (content_in_range c.args.book.now p.accepted) (omega (arith, activities_count p, activities_most p)) named c.own_values.ensures.own c.roll_rows.ensures,
-    )
+    let named = c.copy_parents.ensures b c.own_values.ensures.schedule in record {
+      parents = named;
+      out = values_from b c.args.date (content_in_range c.args.book.now p.accepted) (omega (arith, activities_count p, activities_most p)) named c.own_values.ensures.own c.roll_rows.ensures;
+    }
 
 pub shape_of-schedule : goal.shape_of-schedule
 shape_of-schedule c = c.schedule-1.given

@@ -25,4 +25,4 @@ pub slice_bounds-put_lines-end-2 : goal.slice_bounds-put_lines-end-2
 slice_bounds-put_lines-end-2 c = sym (length-take-le _ _ c.if-out-n.false)
 
 pub put_lines-requires : goal.put_lines-requires
-put_lines-requires c = (c.requires, length-take-le _ _ c.if-out-n.false)
+put_lines-requires c = record { has_figures = c.requires; out_len = length-take-le _ _ c.if-out-n.false }

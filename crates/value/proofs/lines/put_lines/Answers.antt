@@ -10,10 +10,6 @@ use Rattle.answers.specs.Rows.{outline_width}
 use Rattle.value.specs.Figures.{outlined_in}
 use Rattle.value.proofs.Reading.{outlined_wide, outlined_set}
 use Rattle.value.proofs.lines.put_lines.Goals as goal
-use Rattle.value.proofs.lines.put_lines.Goals.{Start}
-
-most : (s : Start) → s.args.count * 2 ≤ length s.args.lines.now
-most s = s.requires.0.most
 
 pub loop-k-init : goal.loop-k-init
 loop-k-init c =
@@ -37,25 +33,25 @@ returns c =
     rows_end outline_width _ (outlined_wide a.table.now a.lines.now) _ c.loop-k.invariant.1 c.loop-k-test.false
 
 pub overflow_mul-index : goal.overflow_mul-index
-overflow_mul-index c = omega (arith, most (goal.at.overflow_mul-index c).Start)
+overflow_mul-index c = omega (arith, c.requires.has_figures.most)
 
 pub overflow_add-index : goal.overflow_add-index
-overflow_add-index c = omega (arith, most (goal.at.overflow_add-index c).Start)
+overflow_add-index c = omega (arith, c.requires.has_figures.most)
 
 pub offset_bounds-lines-k : goal.offset_bounds-lines-k
-offset_bounds-lines-k c = omega (arith, most (goal.at.offset_bounds-lines-k c).Start)
+offset_bounds-lines-k c = omega (arith, c.requires.has_figures.most)
 
 pub bounds-lines-k : goal.bounds-lines-k
-bounds-lines-k c = omega (arith, most (goal.at.bounds-lines-k c).Start)
+bounds-lines-k c = omega (arith, c.requires.has_figures.most)
 
 pub overflow_mul-k : goal.overflow_mul-k
-overflow_mul-k c = omega (arith, most (goal.at.overflow_mul-k c).Start)
+overflow_mul-k c = omega (arith, c.requires.has_figures.most)
 
 pub offset_bounds-lines-k-in-loop-k : goal.offset_bounds-lines-k-in-loop-k
-offset_bounds-lines-k-in-loop-k c = omega (arith, most (goal.at.offset_bounds-lines-k-in-loop-k c).Start)
+offset_bounds-lines-k-in-loop-k c = omega (arith, c.requires.has_figures.most)
 
 pub bounds-lines-k-in-loop-k : goal.bounds-lines-k-in-loop-k
-bounds-lines-k-in-loop-k c = omega (arith, most (goal.at.bounds-lines-k-in-loop-k c).Start)
+bounds-lines-k-in-loop-k c = omega (arith, c.requires.has_figures.most)
 
 pub overflow_mul-k-in-loop-k : goal.overflow_mul-k-in-loop-k
 overflow_mul-k-in-loop-k c = omega arith

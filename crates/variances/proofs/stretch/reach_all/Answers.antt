@@ -13,7 +13,7 @@ reach-planned-requires c =
     ((c.requires.tables.scheduled, omega arith), (c.reach-early.ensures.bounded, (early_dates c.requires.dated).1))
 
 pub returns : goal.returns
-returns c = (
-  c.reach.ensures.bounded,
-  all_reached c.requires.dated c.reach-early.ensures c.reach-planned.ensures c.reach-begun.ensures c.reach.ensures,
-)
+returns c = record {
+      bounded = c.reach.ensures.bounded;
+      by_index = all_reached c.requires.dated c.reach-early.ensures c.reach-planned.ensures c.reach-begun.ensures c.reach.ensures;
+    }
