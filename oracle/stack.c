@@ -1,7 +1,7 @@
 /* How much stack a call needs. Each call is made on a stack that was painted before, and what paint is left is counted; a call of
    nothing is taken off.
 
-       gcc -O2 -Iinclude oracle/stack.c target/staticlib/libsurukeva.a -lpthread -o build/stack && build/stack < BOOK */
+       gcc -O2 -Iinclude oracle/stack.c crates/surukeva/out/libsurukeva.a -lpthread -o build/stack && build/stack < BOOK */
 #include <pthread.h>
 #include <stdio.h>
 #include <stdlib.h>
