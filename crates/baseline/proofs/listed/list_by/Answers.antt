@@ -16,18 +16,23 @@ counted : (c : Start) → length (content c.args.book.now).activities ≡ length
 counted c = sym (parents_count (content c.args.book.now)) ∙ c.requires.lines.0.counted
 
 scheduled : (c : Start) → length c.args.schedule.now ≡ length c.args.budgets.now * 13
-scheduled c = schedule_length (content c.args.book.now) c.requires.schedule_value.0 ∙ omega (arith, counted c)
+scheduled c = schedule_length (content c.args.book.now) c.requires.schedule_value ∙ omega (arith, counted c)
 
 pub fill_spans-requires : goal.fill_spans-requires
 fill_spans-requires c =
-    (scheduled c.before.before.before.before.before.before.before.before.before.before, omega (arith, c.lines-1.given, c.requires.schedule_value.1.1.0), c.requires.schedule_value.1.1.2)
+    let at = (goal.at.fill_spans-requires c).Start in
+    (scheduled at, omega (arith, c.requires.lines_len.0), c.requires.lines_len.2)
 
 pub fill_budgets-requires : goal.fill_budgets-requires
 fill_budgets-requires c =
-    (scheduled c.before.before.before.before.before.before.before.before.before.before.before.before.before.before.before, omega (arith, c.lines-1.given, c.requires.schedule_value.1.1.0), omega (arith, own_costs_long (content c.args.book.now) c.requires.schedule_value.1.0, counted c.before.before.before.before.before.before.before.before.before.before.before.before.before.before.before), c.requires.lines.2)
+    let at = (goal.at.fill_budgets-requires c).Start in
+    (scheduled at, omega (arith, c.requires.lines_len.0), omega (arith, own_costs_long (content c.args.book.now) c.requires.costs_value, counted at), c.requires.lines.2)
 
 pub returns : goal.returns
 returns c =
     let b = content c.args.book.now in
     let taken = c.take_lines.ensures in
-    (c.fill_spans.ensures b c.requires.schedule_value.0 taken, c.fill_budgets.ensures b c.requires.lines.1 c.requires.schedule_value.0 taken c.requires.schedule_value.1.0)
+    record {
+      listed = c.fill_spans.ensures b c.requires.schedule_value taken;
+      budgets = c.fill_budgets.ensures b c.requires.lines.1 c.requires.schedule_value taken c.requires.costs_value;
+    }
