@@ -11,10 +11,10 @@ returns-then-asked c =
 
 pub short_rows-requires : goal.short_rows-requires
 short_rows-requires c =
-    let reach = c.reach_of-reach.ensures in (
-      narrowed_asked reach c.requires.are_phased c.args.between c.ask-asked.ensures c.if-asked.false,
-      narrowed_short reach c.requires.are_phased c.args.between c.ask-asked.ensures 256 c.if-reach.true,
-    )
+    let reach = c.reach_of-reach.ensures in record {
+      asked = narrowed_asked reach c.requires.are_phased c.args.between c.ask-asked.ensures c.if-asked.false;
+      known_bound = narrowed_short reach c.requires.are_phased c.args.between c.ask-asked.ensures 256 c.if-reach.true;
+    }
 
 pub returns-then-reach : goal.returns-then-reach
 returns-then-reach c =
@@ -23,4 +23,4 @@ returns-then-reach c =
 pub many_rows-requires : goal.many_rows-requires
 many_rows-requires c =
     let s = c.requires in
-    (s.0, activities_most s.0.plan)
+    record { opened = s.opened; count_bound = activities_most s.opened.plan }

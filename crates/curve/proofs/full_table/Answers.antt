@@ -13,4 +13,8 @@ pub slice_bounds-rows_in-end-2 : goal.slice_bounds-rows_in-end-2
 slice_bounds-rows_in-end-2 c = sym (length-replicate {A = ℕ} 73050 0)
 
 pub rows_in-requires : goal.rows_in-requires
-rows_in-requires c = let s = c.requires in (s, (omega (arith, reach_full s.reached, c.rows_in-arg-1.given), empty_table 73050 (omega (arith, full_dates s))))
+rows_in-requires c = let s = c.requires in record {
+  asked = s;
+  known_in_bounds = omega (arith, reach_full s.reached);
+  empty = empty_table 73050 (omega (arith, full_dates s));
+}

@@ -6,7 +6,9 @@ use borrow.Author.Rules.{rules}
 use Rattle.curve.proofs.lay_plan.Goals as goal
 
 pub fill_all-requires : goal.fill_all-requires
-fill_all-requires c = let s = c.requires in (s.0.reached.covers.most, (s.1, reach_calendars s.0.reached))
+fill_all-requires c =
+    let s = c.requires in
+    record { to_bound = s.asked.reached.covers.most; from_in_bounds = s.known_in_bounds; every = reach_calendars s.asked.reached }
 
 pub overflow_add-width : goal.overflow_add-width
 overflow_add-width c = omega (arith, c.requires.asked.reached.covers.most)
@@ -17,9 +19,9 @@ overflow_sub-width c = omega (arith, c.requires.asked.reached.covers.ahead)
 pub lay_leaves-requires : goal.lay_leaves-requires
 lay_leaves-requires c =
     let s = c.requires in
-    reach_tabled s.0.reached (omega (arith, s.1, c.fill_all.auto.1.1.1.1.0))
+    reach_tabled s.asked.reached (omega (arith, s.known_in_bounds, c.fill_all.auto.days))
 
 pub returns : goal.returns
 returns c =
     let s = c.requires in
-    asked_planned s.0 (omega (arith, s.1, c.fill_all.auto.1.1.1.1.0)) c.fill_all.ensures c.lay_leaves.ensures
+    asked_planned s.asked (omega (arith, s.known_in_bounds, c.fill_all.auto.days)) c.fill_all.ensures c.lay_leaves.ensures

@@ -14,7 +14,7 @@ returns-then-opened-eq0 c =
     nothing_points _ _ (no_curve (content c.args.book.now) (activities_count c.requires.plan ∙ c.if-opened-eq0.true) c.args.from c.args.to)
 
 pub many_rows-requires : goal.many_rows-requires
-many_rows-requires c = let s = c.requires in (s, activities_most s.plan)
+many_rows-requires c = let s = c.requires in record { opened = s; count_bound = activities_most s.plan }
 
 pub returns-then-opened : goal.returns-then-opened
 unfolding planned_curve_rows

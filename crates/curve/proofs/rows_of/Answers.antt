@@ -14,10 +14,10 @@ fits_small-requires c = let r = c.reach_of-reach.ensures in (r.covers.ahead, r.c
 
 pub small_rows-requires : goal.small_rows-requires
 small_rows-requires c =
-    let reach = c.reach_of-reach.ensures in (
-      narrowed_asked reach c.requires.are_phased c.args.between c.ask-asked.ensures c.if-asked.false,
-      narrowed_fits reach c.requires.are_phased c.args.between c.ask-asked.ensures (c.fits_small.ensures c.if-fits_small.true),
-    )
+    let reach = c.reach_of-reach.ensures in record {
+      asked = narrowed_asked reach c.requires.are_phased c.args.between c.ask-asked.ensures c.if-asked.false;
+      fits_small = narrowed_fits reach c.requires.are_phased c.args.between c.ask-asked.ensures (c.fits_small.ensures c.if-fits_small.true);
+    }
 
 pub returns-then-fits_small : goal.returns-then-fits_small
 returns-then-fits_small c =

@@ -15,4 +15,8 @@ pub slice_bounds-rows_in-end-2 : goal.slice_bounds-rows_in-end-2
 slice_bounds-rows_in-end-2 c = sym (length-replicate {A = ℕ} 512 0)
 
 pub rows_in-requires : goal.rows_in-requires
-rows_in-requires c = let s = c.requires in (s.0, (rw (length-replicate {A = ℕ} 4096 0) (short_days s.0 256 s.1), empty_table 512 (omega (arith, s.1))))
+rows_in-requires c = let s = c.requires in record {
+  asked = s.asked;
+  known_in_bounds = rw (length-replicate {A = ℕ} 4096 0) (short_days s.asked 256 s.known_bound);
+  empty = empty_table 512 (omega (arith, s.known_bound));
+}

@@ -15,7 +15,10 @@ use Rattle.spending.proofs.rows_by.Goals.{Else-asked}
 
 pub stretch_of-known-requires : goal.stretch_of-known-requires
 stretch_of-known-requires c =
-    ((schedule_long_lem c.requires.opened.plan c.requires.schedule_value, omega arith), planned_dated c.args.schedule.now (schedule_spans c.requires.opened.plan c.requires.schedule_value Planned))
+    record {
+      table_len = (schedule_long_lem c.requires.opened.plan c.requires.schedule_value, omega arith);
+      dated_spans = planned_dated c.args.schedule.now (schedule_spans c.requires.opened.plan c.requires.schedule_value Planned);
+    }
 
 pub returns-then-asked : goal.returns-then-asked
 returns-then-asked c =
@@ -44,7 +47,7 @@ narrow c =
     spending_narrow c.requires.opened.plan c.requires.schedule_value (planned_covers c.args.schedule.now c.stretch_of-known.ensures) c.args.between.from c.args.between.to c.later.ensures c.earlier.ensures
 
 pub few_rows-requires : goal.few_rows-requires
-few_rows-requires c = (asked_is (goal.at.few_rows-requires c).Else-asked, c.are_few.ensures c.if-are_few.true)
+few_rows-requires c = record { asked = asked_is (goal.at.few_rows-requires c).Else-asked; are_few = c.are_few.ensures c.if-are_few.true }
 
 pub returns-then-are_few : goal.returns-then-are_few
 returns-then-are_few c = writes_same c.args.grain (narrow (goal.at.returns-then-are_few c).Else-asked) c.few_rows.ensures

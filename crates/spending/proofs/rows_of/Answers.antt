@@ -9,7 +9,6 @@ use Rattle.bydate.proofs.Arrays.{front_long}
 use Rattle.spending.proofs.Written.{writes_none}
 use borrow.Author.Rules.{rules}
 use Rattle.spending.proofs.rows_of.Goals as goal
-use Rattle.spending.proofs.rows_of.Goals.{After-schedule-1, After-schedule-2-1, Else-opened}
 
 pub returns-then-opened-eq0 : goal.returns-then-opened-eq0
 returns-then-opened-eq0 c =
@@ -23,13 +22,13 @@ pub slice_bounds-scheduled_rows-end : goal.slice_bounds-scheduled_rows-end
 slice_bounds-scheduled_rows-end c = front_long {A = ℕ} 416 0 _ (omega (arith, c.if-opened.true))
 
 pub scheduled_rows-requires : goal.scheduled_rows-requires
-scheduled_rows-requires c = (c.requires, sym (slice_bounds-scheduled_rows-end (goal.at.scheduled_rows-requires c).After-schedule-1))
+scheduled_rows-requires c = record { opened = c.requires; schedule_len = sym (front_long {A = ℕ} 416 0 _ (omega (arith, c.if-opened.true))) }
 
 pub slice_bounds-schedule-end-2 : goal.slice_bounds-schedule-end-2
 slice_bounds-schedule-end-2 c = omega (arith, activities_most c.requires.plan)
 
 pub slice_bounds-scheduled_rows-end-2 : goal.slice_bounds-scheduled_rows-end-2
-slice_bounds-scheduled_rows-end-2 c = front_long {A = ℕ} 6500 0 _ (slice_bounds-schedule-end-2 (goal.at.slice_bounds-scheduled_rows-end-2 c).Else-opened)
+slice_bounds-scheduled_rows-end-2 c = front_long {A = ℕ} 6500 0 _ (omega (arith, activities_most c.requires.plan))
 
 pub scheduled_rows-requires-2 : goal.scheduled_rows-requires-2
-scheduled_rows-requires-2 c = (c.requires, sym (slice_bounds-scheduled_rows-end-2 (goal.at.scheduled_rows-requires-2 c).After-schedule-2-1))
+scheduled_rows-requires-2 c = record { opened = c.requires; schedule_len = sym (front_long {A = ℕ} 6500 0 _ (omega (arith, activities_most c.requires.plan))) }

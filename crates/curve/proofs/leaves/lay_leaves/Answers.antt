@@ -48,7 +48,9 @@ pub bounds-listed-at-in-loop-i-2 : goal.bounds-listed-at-in-loop-i-2
 bounds-listed-at-in-loop-i-2 c = omega (arith, c.requires.long)
 
 pub span_of-span-requires : goal.span_of-span-requires
-span_of-span-requires c = span_asked c.requires c.loop-i.i c.loop-i-test.true
+span_of-span-requires c =
+    let s = span_asked c.requires c.loop-i.i c.loop-i-test.true in
+    record { calendar_bound = s.0; covers = s.1 }
 
 pub bounds-budgets-i : goal.bounds-budgets-i
 bounds-budgets-i c = omega arith
@@ -64,7 +66,7 @@ loop-i-preserved c =
     let s = c.args in
     leaves_more s.base s.width s.days.now s.marks.now s.listed.now s.budgets.now c.loop-i.invariant c.loop-i-test.true c.if-marks-i-ne0.false c.span_of-span.ensures
     (laid_same
-    (ap (λ (z : ℤ). spread_over z (listed_in s.days.now c.span_of-span.result)) (back w64 (get_or s.budgets.now c.loop-i.i (pos 0)) c.budget-1.given))
+    (ap (λ (z : ℤ). spread_over z (listed_in s.days.now c.span_of-span.result)) (back w64 (get_or s.budgets.now c.loop-i.i (pos 0)) (search rules)))
     c.lay_spread.ensures)
 
 pub shape_of-table : goal.shape_of-table

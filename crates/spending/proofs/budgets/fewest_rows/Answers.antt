@@ -19,7 +19,7 @@ slice_bounds-charged_rows-end-3 c = front_long 144 (pos 0) _ (omega (arith, c.re
 pub charged_rows-requires : goal.charged_rows-requires
 charged_rows-requires c =
     let few = c.requires.are_within in
-    (c.requires.asked, arrays_room c.args.asked.opened.plan 492 96 144 (omega (arith, few.rated)) (omega (arith, few.charged)) (omega (arith, few.charged)))
+    record { asked = c.requires.asked; has_room = arrays_room c.args.asked.opened.plan 492 96 144 (omega (arith, few.rated)) (omega (arith, few.charged)) (omega (arith, few.charged)) }
 
 pub overflow_add-n : goal.overflow_add-n
 overflow_add-n c = omega (arith, c.requires.are_within.charged)

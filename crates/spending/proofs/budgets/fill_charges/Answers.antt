@@ -19,19 +19,22 @@ slice_bounds-fill_assigned-end-4 c = sym (length-take-le (c.args.opened.plan.ass
 pub fill_assigned-requires : goal.fill_assigned-requires
 fill_assigned-requires c =
     let m = c.args.opened.plan.assignments.count in
-    (c.requires.plan_of, (length-take-le (m * 2) c.args.links.now (omega (arith, c.requires.links_len.0)), length-take-le (m * 3) c.args.units.now (omega (arith, c.requires.links_len.1))))
+    record {
+      plan_of = c.requires.plan_of;
+      links_len = (length-take-le (m * 2) c.args.links.now (omega (arith, c.requires.links_len.0)), length-take-le (m * 3) c.args.units.now (omega (arith, c.requires.links_len.1)));
+    }
 
 pub fill_expensed-requires : goal.fill_expensed-requires
 fill_expensed-requires c =
     let p = c.requires.plan_of in
     let m = c.args.opened.plan.assignments.count in
-    let w = c.fill_assigned.ensures in (
-      p,
-      (
-        second_long (m * 2) c.fill_assigned.new.1.1.1.0 (drop (m * 2) c.args.links.now) (omega (arith, links_length w, assignments_count p)) (omega (arith, length-drop (m * 2) c.args.links.now, c.requires.links_len.0)),
-        second_long (m * 3) c.fill_assigned.new.1.1.1.1.0 (drop (m * 3) c.args.units.now) (omega (arith, units_length w, assignments_count p)) (omega (arith, length-drop (m * 3) c.args.units.now, c.requires.links_len.1)),
-      ),
-    )
+    let w = c.fill_assigned.ensures in record {
+      plan_of = p;
+      accruals_len = (
+        second_long (m * 2) c.fill_assigned.new.links (drop (m * 2) c.args.links.now) (omega (arith, links_length w, assignments_count p)) (omega (arith, length-drop (m * 2) c.args.links.now, c.requires.links_len.0)),
+        second_long (m * 3) c.fill_assigned.new.units (drop (m * 3) c.args.units.now) (omega (arith, units_length w, assignments_count p)) (omega (arith, length-drop (m * 3) c.args.units.now, c.requires.links_len.1)),
+      );
+    }
 
 pub returns : goal.returns
 returns c =

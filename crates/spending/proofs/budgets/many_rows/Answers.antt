@@ -40,4 +40,4 @@ slice_bounds-charged_rows-end-3 c = front_long 9000 (pos 0) _ (omega (arith, ful
 
 pub charged_rows-requires : goal.charged_rows-requires
 charged_rows-requires c =
-    (c.requires, arrays_room c.args.asked.opened.plan 16400 6000 9000 (omega (arith, resources_most (asked_plan c.requires))) (omega (arith, full_charges c.requires)) (omega (arith, full_charges c.requires)))
+    record { asked = c.requires; has_room = arrays_room c.args.asked.opened.plan 16400 6000 9000 (omega (arith, resources_most (asked_plan c.requires))) (omega (arith, full_charges c.requires)) (omega (arith, full_charges c.requires)) }

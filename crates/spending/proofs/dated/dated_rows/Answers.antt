@@ -9,10 +9,10 @@ pub overflow_add-asked : goal.overflow_add-asked
 overflow_add-asked c = let a = c.requires.asked in omega (arith, a.covers.ahead, a.covers.most)
 
 pub short_rows-requires : goal.short_rows-requires
-short_rows-requires c = let s = c.requires in (s.0, (s.1, omega (arith, c.if-asked.true)))
+short_rows-requires c = let s = c.requires in record { asked = s.asked; charged = s.charged; known_bound = omega (arith, c.if-asked.true) }
 
 pub fits_small-requires : goal.fits_small-requires
 fits_small-requires c = let a = c.requires.asked in (a.covers.ahead, a.covers.most, calendars_most (asked_plan a))
 
 pub small_rows-requires : goal.small_rows-requires
-small_rows-requires c = let s = c.requires in (s.0, (s.1, c.fits_small.ensures c.if-fits_small.true))
+small_rows-requires c = let s = c.requires in record { asked = s.asked; charged = s.charged; fits_small = c.fits_small.ensures c.if-fits_small.true }

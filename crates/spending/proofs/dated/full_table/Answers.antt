@@ -14,5 +14,10 @@ slice_bounds-rows_in-end-2 c = sym (length-replicate {A = ℕ} 73050 0)
 pub rows_in-requires : goal.rows_in-requires
 rows_in-requires c =
     let s = c.requires in
-    let dates = full_dates s.0 in
-    (s.0, (s.1, (omega (arith, short_days s.0 36525 dates, c.rows_in-arg-1.given), empty_table 73050 (omega (arith, dates)))))
+    let dates = full_dates s.asked in
+    record {
+      asked = s.asked;
+      charged = s.charged;
+      known_in_bounds = omega (arith, short_days s.asked 36525 dates);
+      empty = empty_table 73050 (omega (arith, dates));
+    }

@@ -14,4 +14,9 @@ pub slice_bounds-rows_in-end-2 : goal.slice_bounds-rows_in-end-2
 slice_bounds-rows_in-end-2 c = sym (length-replicate {A = ℕ} 4096 0)
 
 pub rows_in-requires : goal.rows_in-requires
-rows_in-requires c = let s = c.requires in (s.0, (s.1.0, (rw (length-replicate {A = ℕ} 8192 0) s.1.1.days, empty_table 4096 (omega (arith, s.1.1.dates)))))
+rows_in-requires c = let s = c.requires in record {
+  asked = s.asked;
+  charged = s.charged;
+  known_in_bounds = rw (length-replicate {A = ℕ} 8192 0) s.fits_small.days;
+  empty = empty_table 4096 (omega (arith, s.fits_small.dates));
+}
