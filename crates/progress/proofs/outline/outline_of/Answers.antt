@@ -13,11 +13,11 @@ most s = activities_most s.requires.plan
 
 pub roll_rows-requires : goal.roll_rows-requires
 roll_rows-requires c =
-    (c.requires, (length-take-le _ _ c.if-n-le-FEW.true, length-take-le _ _ (omega (arith, c.if-n-le-FEW.true))))
+    record { opened = c.requires; parents_len = (length-take-le _ _ c.if-n-le-FEW.true, length-take-le _ _ (omega (arith, c.if-n-le-FEW.true))) }
 
 pub roll_rows-requires-2 : goal.roll_rows-requires-2
 roll_rows-requires-2 c =
-    (c.requires, (length-take-le _ _ (most (goal.at.roll_rows-requires-2 c).Start), length-take-le _ _ (omega (arith, most (goal.at.roll_rows-requires-2 c).Start))))
+    record { opened = c.requires; parents_len = (length-take-le _ _ (most (goal.at.roll_rows-requires-2 c).Start), length-take-le _ _ (omega (arith, most (goal.at.roll_rows-requires-2 c).Start))) }
 
 pub slice_bounds-parents-end : goal.slice_bounds-parents-end
 slice_bounds-parents-end c = c.if-n-le-FEW.true

@@ -7,4 +7,4 @@ use Rattle.progress.proofs.own.make_own.Goals as goal
 pub date_values-requires : goal.date_values-requires
 date_values-requires c =
     let columns = c.fill_columns.ensures in
-    (c.requires.opened, ((columns.spanned, columns.budgeted), measured_are (content c.args.book.now) c.measure.ensures))
+    record { opened = c.requires.opened; listed_value = (columns.spanned, columns.budgeted); measured = measured_are (content c.args.book.now) c.measure.ensures }

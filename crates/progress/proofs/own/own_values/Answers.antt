@@ -9,35 +9,31 @@ use Rattle.progress.proofs.own.own_values.Goals as goal
 use Rattle.progress.proofs.own.own_values.Goals.{Start}
 
 most : (s : Start) → s.args.opened.plan.activities.count ≤ 500
-most s = activities_most s.requires.0.plan
+most s = activities_most s.requires.opened.plan
 
 pub make_own-requires : goal.make_own-requires
-make_own-requires c = (
-  c.requires.opened,
-  (
-    record {
-      schedule_long = c.requires.schedule_len.0;
-      costs_long = length-take-le _ _ (omega (arith, c.if-n-le-FEW.true));
-      listed_long = length-take-le _ _ (omega (arith, c.if-n-le-FEW.true));
-      budgets_long = length-take-le _ _ c.if-n-le-FEW.true;
-    },
-    c.requires.schedule_len.1,
-  ),
-)
+make_own-requires c = record {
+  opened = c.requires.opened;
+  has_room = record {
+    schedule_long = c.requires.schedule_len.0;
+    costs_long = length-take-le _ _ (omega (arith, c.if-n-le-FEW.true));
+    listed_long = length-take-le _ _ (omega (arith, c.if-n-le-FEW.true));
+    budgets_long = length-take-le _ _ c.if-n-le-FEW.true;
+  };
+  own_len = c.requires.schedule_len.1;
+}
 
 pub make_own-requires-2 : goal.make_own-requires-2
-make_own-requires-2 c = (
-  c.requires.opened,
-  (
-    record {
-      schedule_long = c.requires.schedule_len.0;
-      costs_long = length-take-le _ _ (omega (arith, most (goal.at.make_own-requires-2 c).Start));
-      listed_long = length-take-le _ _ (omega (arith, most (goal.at.make_own-requires-2 c).Start));
-      budgets_long = length-take-le _ _ (most (goal.at.make_own-requires-2 c).Start);
-    },
-    c.requires.schedule_len.1,
-  ),
-)
+make_own-requires-2 c = record {
+  opened = c.requires.opened;
+  has_room = record {
+    schedule_long = c.requires.schedule_len.0;
+    costs_long = length-take-le _ _ (omega (arith, most (goal.at.make_own-requires-2 c).Start));
+    listed_long = length-take-le _ _ (omega (arith, most (goal.at.make_own-requires-2 c).Start));
+    budgets_long = length-take-le _ _ (most (goal.at.make_own-requires-2 c).Start);
+  };
+  own_len = c.requires.schedule_len.1;
+}
 
 pub overflow_mul-costs : goal.overflow_mul-costs
 overflow_mul-costs c = omega (arith, c.if-n-le-FEW.true)

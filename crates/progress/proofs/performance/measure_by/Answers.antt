@@ -14,20 +14,20 @@ use Rattle.model.specs.Lookup.{no_activity, activity_at}
 use Rattle.activities.proofs.Scheduling.{row_long, row_working, row_remaining}
 use Rattle.earned.proofs.Shares.{share_row}
 use Rattle.progress.proofs.performance.measure_by.Goals as goal
-use Rattle.progress.proofs.performance.measure_by.Goals.{After-row_at-arg-1, Start}
+use Rattle.progress.proofs.performance.measure_by.Goals.{Start}
 
 inside : (s : Start) → s.args.activity < length (content s.args.book.now).activities
-inside s = omega (arith, s.requires.1.0, activities_count s.requires.0.plan)
+inside s = omega (arith, s.requires.activity_lt_count, activities_count s.requires.opened.plan)
 
 in_range_lem : (s : Start) → let plan = s.args.opened.plan in ActivityInRange plan.calendars.count plan.activities.count (activity_at (content s.args.book.now) s.args.activity)
-in_range_lem s = activities_in_range s.requires.0.plan s.args.activity no_activity (inside s)
+in_range_lem s = activities_in_range s.requires.opened.plan s.args.activity no_activity (inside s)
 
 pub share_done-requires : goal.share_done-requires
 share_done-requires c =
     let b = content c.args.book.now in
     let a = activity_at b c.args.activity in
     let e = c.row_at-row.ensures in
-    (omega (arith, row_long b.data_date a e), (rw (row_working b.data_date a e) (in_range_lem (goal.at.share_done-requires c).After-row_at-arg-1).working_minutes, rw (row_remaining b.data_date a e) (in_range_lem (goal.at.share_done-requires c).After-row_at-arg-1).remaining_minutes))
+    record { i_in_bounds = omega (arith, row_long b.data_date a e); minutes = (rw (row_working b.data_date a e) (in_range_lem (goal.at.share_done-requires c).Start).working_minutes, rw (row_remaining b.data_date a e) (in_range_lem (goal.at.share_done-requires c).Start).remaining_minutes) }
 
 pub returns : goal.returns
 returns c =
@@ -35,5 +35,5 @@ returns c =
     let i = c.args.activity in
     let units = c.fill_units.ensures in
     c.share_done.ensures
-    ∙ share_row b i c.row_at-row.ensures (content_in_range c.args.book.now c.requires.opened.plan.accepted) (inside (goal.at.returns c).After-row_at-arg-1) c.args.opened.technique c.requires.opened.technique
-    (back w64 _ c.done-1.given ∙ units.done i (inside (goal.at.returns c).After-row_at-arg-1)) (back w64 _ c.all-1.given ∙ units.total i (inside (goal.at.returns c).After-row_at-arg-1))
+    ∙ share_row b i c.row_at-row.ensures (content_in_range c.args.book.now c.requires.opened.plan.accepted) (inside (goal.at.returns c).Start) c.args.opened.technique c.requires.opened.technique
+    (back w64 _ c.done-1.given ∙ units.done i (inside (goal.at.returns c).Start)) (back w64 _ c.all-1.given ∙ units.total i (inside (goal.at.returns c).Start))

@@ -10,15 +10,15 @@ use Rattle.progress.proofs.performance.performance.Goals as goal
 use Rattle.progress.proofs.performance.performance.Goals.{Start}
 
 most : (s : Start) → s.args.opened.plan.activities.count ≤ 500
-most s = activities_most s.requires.0.plan
+most s = activities_most s.requires.opened.plan
 
 pub measure_by-requires : goal.measure_by-requires
 measure_by-requires c =
-    (c.requires.opened, (c.requires.activity_lt_count, (length-take-le _ _ (omega (arith, c.if-count-le-FEW.true)), nothing_taken (c.args.opened.plan.activities.count * 2) 64)))
+    record { opened = c.requires.opened; activity_lt_count = c.requires.activity_lt_count; units_len = (length-take-le _ _ (omega (arith, c.if-count-le-FEW.true)), nothing_taken (c.args.opened.plan.activities.count * 2) 64) }
 
 pub measure_by-requires-2 : goal.measure_by-requires-2
 measure_by-requires-2 c =
-    (c.requires.opened, (c.requires.activity_lt_count, (length-take-le _ _ (omega (arith, most (goal.at.measure_by-requires-2 c).Start)), nothing_taken (c.args.opened.plan.activities.count * 2) 1000)))
+    record { opened = c.requires.opened; activity_lt_count = c.requires.activity_lt_count; units_len = (length-take-le _ _ (omega (arith, most (goal.at.measure_by-requires-2 c).Start)), nothing_taken (c.args.opened.plan.activities.count * 2) 1000) }
 
 pub overflow_mul-units : goal.overflow_mul-units
 overflow_mul-units c = omega (arith, c.if-count-le-FEW.true)

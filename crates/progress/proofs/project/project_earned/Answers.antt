@@ -20,12 +20,12 @@ returns-then-count-eq0 c =
 pub add_leaves-requires : goal.add_leaves-requires
 add_leaves-requires c =
     let h = c.if-count-le-FEW.true in
-    (c.requires, (length-take-le _ _ (omega arith), length-take-le _ _ (omega arith)))
+    record { opened = c.requires; schedule_len = (length-take-le _ _ (omega arith), length-take-le _ _ (omega arith)) }
 
 pub add_leaves-requires-2 : goal.add_leaves-requires-2
 add_leaves-requires-2 c =
     let h = most (goal.at.add_leaves-requires-2 c).Start in
-    (c.requires, (length-take-le _ _ (omega arith), length-take-le _ _ (omega arith)))
+    record { opened = c.requires; schedule_len = (length-take-le _ _ (omega arith), length-take-le _ _ (omega arith)) }
 
 pub overflow_mul-schedule : goal.overflow_mul-schedule
 overflow_mul-schedule c = omega (arith, c.if-count-le-FEW.true)

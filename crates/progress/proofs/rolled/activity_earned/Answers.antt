@@ -9,15 +9,15 @@ use Rattle.progress.proofs.rolled.activity_earned.Goals as goal
 use Rattle.progress.proofs.rolled.activity_earned.Goals.{Start}
 
 most : (s : Start) → s.args.opened.plan.activities.count ≤ 500
-most s = activities_most s.requires.0.plan
+most s = activities_most s.requires.opened.plan
 
 pub figures_at-requires : goal.figures_at-requires
 figures_at-requires c =
-    (c.requires.opened, (c.requires.activity_lt_count, length-take-le _ _ (omega (arith, c.if-n-le-FEW.true))))
+    record { opened = c.requires.opened; activity_lt_count = c.requires.activity_lt_count; rolled_len = length-take-le _ _ (omega (arith, c.if-n-le-FEW.true)) }
 
 pub figures_at-requires-2 : goal.figures_at-requires-2
 figures_at-requires-2 c =
-    (c.requires.opened, (c.requires.activity_lt_count, length-take-le _ _ (omega (arith, most (goal.at.figures_at-requires-2 c).Start))))
+    record { opened = c.requires.opened; activity_lt_count = c.requires.activity_lt_count; rolled_len = length-take-le _ _ (omega (arith, most (goal.at.figures_at-requires-2 c).Start)) }
 
 pub overflow_mul-rolled : goal.overflow_mul-rolled
 overflow_mul-rolled c = omega (arith, c.if-n-le-FEW.true)

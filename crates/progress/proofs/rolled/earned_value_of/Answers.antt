@@ -28,7 +28,7 @@ returns-then-count-eq0 c =
 
 pub fill_rows-requires : goal.fill_rows-requires
 fill_rows-requires c =
-    (c.requires, (length-take-le _ _ (omega (arith, c.if-count-le-FEW.true)), length-take-le _ _ (omega (arith, c.if-out-n.false))))
+    record { opened = c.requires; rolled_len = (length-take-le _ _ (omega (arith, c.if-count-le-FEW.true)), length-take-le _ _ (omega (arith, c.if-out-n.false))) }
 
 pub returns-then-count-le-FEW : goal.returns-then-count-le-FEW
 returns-then-count-le-FEW c =
@@ -36,7 +36,7 @@ returns-then-count-le-FEW c =
 
 pub fill_rows-requires-2 : goal.fill_rows-requires-2
 fill_rows-requires-2 c =
-    (c.requires, (length-take-le _ _ (omega (arith, most (goal.at.fill_rows-requires-2 c).Start)), length-take-le _ _ (omega (arith, c.if-out-n.false))))
+    record { opened = c.requires; rolled_len = (length-take-le _ _ (omega (arith, most (goal.at.fill_rows-requires-2 c).Start)), length-take-le _ _ (omega (arith, c.if-out-n.false))) }
 
 pub returns : goal.returns
 returns c =

@@ -8,4 +8,4 @@ use Rattle.progress.proofs.rolled.figures_at.Goals as goal
 
 pub returns : goal.returns
 returns c =
-    c.earned_at.ensures ∙ rolled_read (content c.args.book.now) c.args.date c.args.opened.plan.activities.count (activities_count c.requires.opened.plan) c.roll_values.ensures c.args.activity c.requires.activity_lt_count.0
+    c.earned_at.ensures ∙ rolled_read (content c.args.book.now) c.args.date c.args.opened.plan.activities.count (activities_count c.requires.opened.plan) c.roll_values.ensures c.args.activity c.requires.activity_lt_count

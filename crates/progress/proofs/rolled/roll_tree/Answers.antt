@@ -9,17 +9,17 @@ use Rattle.progress.proofs.rolled.roll_tree.Goals as goal
 use Rattle.progress.proofs.rolled.roll_tree.Goals.{Start}
 
 most : (s : Start) → s.args.opened.plan.activities.count ≤ 500
-most s = activities_most s.requires.0.plan
+most s = activities_most s.requires.opened.plan
 
 pub roll_own-requires : goal.roll_own-requires
 roll_own-requires c =
     let h = c.if-n-le-FEW.true in
-    (c.requires.opened, (length-take-le _ _ (omega arith), length-take-le _ _ (omega arith), c.requires.parents_len.0, c.requires.parents_len.1))
+    record { opened = c.requires.opened; schedule_len = (length-take-le _ _ (omega arith), length-take-le _ _ (omega arith), c.requires.parents_len.0, c.requires.parents_len.1) }
 
 pub roll_own-requires-2 : goal.roll_own-requires-2
 roll_own-requires-2 c =
     let h = most (goal.at.roll_own-requires-2 c).Start in
-    (c.requires.opened, (length-take-le _ _ (omega arith), length-take-le _ _ (omega arith), c.requires.parents_len.0, c.requires.parents_len.1))
+    record { opened = c.requires.opened; schedule_len = (length-take-le _ _ (omega arith), length-take-le _ _ (omega arith), c.requires.parents_len.0, c.requires.parents_len.1) }
 
 pub overflow_mul-schedule : goal.overflow_mul-schedule
 overflow_mul-schedule c = omega (arith, c.if-n-le-FEW.true)

@@ -7,15 +7,15 @@ use Rattle.progress.proofs.rolled.roll_values.Goals as goal
 use Rattle.progress.proofs.rolled.roll_values.Goals.{Start}
 
 most : (s : Start) → s.args.opened.plan.activities.count ≤ 500
-most s = activities_most s.requires.0.plan
+most s = activities_most s.requires.opened.plan
 
 pub roll_tree-requires : goal.roll_tree-requires
 roll_tree-requires c =
-    (c.requires.opened, (length-take-le _ _ c.if-n-le-FEW.true, c.requires.out_len))
+    record { opened = c.requires.opened; parents_len = (length-take-le _ _ c.if-n-le-FEW.true, c.requires.out_len) }
 
 pub roll_tree-requires-2 : goal.roll_tree-requires-2
 roll_tree-requires-2 c =
-    (c.requires.opened, (length-take-le _ _ (most (goal.at.roll_tree-requires-2 c).Start), c.requires.out_len))
+    record { opened = c.requires.opened; parents_len = (length-take-le _ _ (most (goal.at.roll_tree-requires-2 c).Start), c.requires.out_len) }
 
 pub slice_bounds-parents-end : goal.slice_bounds-parents-end
 slice_bounds-parents-end c = c.if-n-le-FEW.true
