@@ -1,12 +1,12 @@
 -- `date_number` meets its contract: by what is given.
-use Prim.Native.Nat.{ℕ, ◌+◌, ◌*◌, ◌<◌}
+use Prim.Native.Nat.{ℕ, ◌+◌, ◌*◌, ◌^◌, ◌<◌}
 use mathlib.Core.Path.{◌≡◌, refl, ap₂, ◌∙◌}
 use native.Mathlib.Omega.{arith}
 use lib.IntN.{ℤ, pos, ◌+ℤ◌}
+use lib.Signed.{mag}
 use mir.Syntax.{w32, w64}
 use mir.Val.{SFits, to_z, of_z}
 use mir.Facts.{to_z-of_z, to_z_pos}
-use borrow.Author.Rules.{rules}
 use Rattle.integer.specs.Linear.{linear, back, within, sum}
 use Rattle.parts.proofs.date_number.Goals as goal
 
@@ -14,27 +14,23 @@ use Rattle.parts.proofs.date_number.Goals as goal
 room : (n : ℕ) (y : ℤ) → n < 1000000000000000000 → SFits w32 y → SFits w64 (pos n +ℤ y)
 room n y h f = omega (linear, within f, sum (pos n) y)
 
-module _ (c : tie.After-wide) where
-  abbrev y : ℤ
-  y = c.before.before.date.given.0.0
-
-  abbrev high : ℕ
-  high = (c.before.before.date.given.0.1.0 * 100 + c.before.before.date.given.0.1.1.0) * 1048576
-
-  year : SFits w32 y
-  year = record { sfits = c.before.known-told.given.0.1 }
-
-  bounded : high < 1000000000000000000
-  bounded = omega arith
-
-  is_sum : to_z w64 high +ℤ to_z w64 (of_z w64 c.wide.result) ≡ pos high +ℤ y
-  is_sum = ap₂ ◌+ℤ◌ (to_z_pos w64 {n = high} (omega (arith, bounded))) (back w64 _ c.wide.type-inv ∙ c.wide.ensures ∙ to_z-of_z year)
+-- the sum as the code has it
+is_sum :
+    (n : ℕ) (y r : ℤ) → n < 1000000000000000000 → SFits w32 y → mag r < 2 ^ 63 → r ≡ to_z w32 (of_z w32 y) →
+    to_z w64 n +ℤ to_z w64 (of_z w64 r) ≡ pos n +ℤ y
+is_sum n y r h f g e = ap₂ ◌+ℤ◌ (to_z_pos w64 {n = n} (omega (arith, h))) (back w64 r g ∙ e ∙ to_z-of_z f)
 
 pub overflow_add-result : goal.overflow_add-result
-overflow_add-result c = rw (is_sum c) (room _ _ (bounded c) (year c))
+overflow_add-result c =
+    let year : SFits w32 c.in-Of.year = record { sfits = omega arith } in
+    let high : (c.in-Of.month * 100 + c.in-Of.day) * 1048576 < 1000000000000000000 = omega arith in
+    rw (is_sum _ _ _ high year c.wide.type_inv c.wide.ensures) (room _ _ high year)
 
 pub returns-in-Of : goal.returns-in-Of
-returns-in-Of c = rw (c.in-Of.is, is_sum c) (to_z-of_z (room _ _ (bounded c) (year c)))
+returns-in-Of c =
+    let year : SFits w32 c.in-Of.year = record { sfits = omega arith } in
+    let high : (c.in-Of.month * 100 + c.in-Of.day) * 1048576 < 1000000000000000000 = omega arith in
+    rw (c.in-Of.is, is_sum _ _ _ high year c.wide.type_inv c.wide.ensures) (to_z-of_z (room _ _ high year))
 
 pub returns-in-Nothing : goal.returns-in-Nothing
 returns-in-Nothing c = rw c.in-Nothing.is refl

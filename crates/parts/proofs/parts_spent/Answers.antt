@@ -1,10 +1,12 @@
 -- `parts_spent` meets its contract: the share that its call gives, or the number that stands for none.
+use Prim.Native.Nat.{◌^◌, ◌<◌}
+use native.Mathlib.Omega.{arith}
+use lib.Signed.{mag}
 use mathlib.Core.Path.{◌≡◌, sym, ap, ap₂, ◌∙◌}
 use mathlib.Core.Option.{Option, get_or}
 use lib.IntN.{ℤ}
 use mir.Syntax.{w64}
 use mir.Facts.{to_z-of_z}
-use borrow.Author.Rules.{rules}
 use Rattle.integer.specs.Linear.{back}
 use Rattle.money.specs.Scale.{spent_of, share_option}
 use Rattle.money.specs.declared.scale.SpentShare.{SpentShare}
@@ -22,7 +24,8 @@ told c =
 
 pub returns-in-Of : goal.returns-in-Of
 returns-in-Of c =
-    back w64 _ c.in-Of.known_told-1-own.given.0.1 ∙ ap number (sym c.in-Of.is) ∙ told (goal.at.returns-in-Of c).After-spent
+    let share : mag c.in-Of.share < 2 ^ 63 = omega arith in
+    back w64 _ share ∙ ap number (sym c.in-Of.is) ∙ told (goal.at.returns-in-Of c).After-spent
 
 pub returns-in-Undefined : goal.returns-in-Undefined
 returns-in-Undefined c = ap number (sym c.in-Undefined.is) ∙ told (goal.at.returns-in-Undefined c).After-spent

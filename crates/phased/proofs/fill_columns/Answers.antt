@@ -4,7 +4,12 @@ use Rattle.phased.proofs.fill_columns.Goals as goal
 
 pub list_spans-requires : goal.list_spans-requires
 list_spans-requires c =
-    (c.requires.opened, (c.fill_schedule.ensures, (c.own_costs.ensures, (c.requires.has_room.listed_long, c.requires.has_room.budgets_long))))
+    record {
+      opened = c.requires.opened;
+      schedule_value = c.fill_schedule.ensures;
+      costs_value = c.own_costs.ensures;
+      listed_len = (c.requires.has_room.listed_long, c.requires.has_room.budgets_long);
+    }
 
 pub returns : goal.returns
 returns c =

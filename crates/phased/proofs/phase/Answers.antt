@@ -10,29 +10,29 @@ use Rattle.phased.proofs.phase.Goals as goal
 use Rattle.phased.proofs.phase.Goals.{Start}
 
 most : (s : Start) → length s.args.budgets.now ≤ 500
-most s = omega (arith, s.requires.1.1, activities_most s.requires.0.plan)
+most s = omega (arith, s.requires.listed_len.1, activities_most s.requires.opened.plan)
 
 pub phase_by-requires : goal.phase_by-requires
-phase_by-requires c = (
-  c.requires.opened,
-  record {
+phase_by-requires c = record {
+  opened = c.requires.opened;
+  has_room = record {
     schedule_long = length-take-le _ _ (omega (arith, c.if-n-le-FEW.true)) ∙ ap (λ (n : ℕ). n * 13) c.requires.listed_len.1;
     costs_long = length-take-le _ _ (omega (arith, c.if-n-le-FEW.true)) ∙ ap (λ (n : ℕ). n * 3) c.requires.listed_len.1;
     listed_long = c.requires.listed_len.0;
     budgets_long = c.requires.listed_len.1;
-  },
-)
+  };
+}
 
 pub phase_by-requires-2 : goal.phase_by-requires-2
-phase_by-requires-2 c = (
-  c.requires.opened,
-  record {
+phase_by-requires-2 c = record {
+  opened = c.requires.opened;
+  has_room = record {
     schedule_long = length-take-le _ _ (omega (arith, most (goal.at.phase_by-requires-2 c).Start)) ∙ ap (λ (n : ℕ). n * 13) c.requires.listed_len.1;
     costs_long = length-take-le _ _ (omega (arith, most (goal.at.phase_by-requires-2 c).Start)) ∙ ap (λ (n : ℕ). n * 3) c.requires.listed_len.1;
     listed_long = c.requires.listed_len.0;
     budgets_long = c.requires.listed_len.1;
-  },
-)
+  };
+}
 
 pub slice_bounds-phase_by-end : goal.slice_bounds-phase_by-end
 slice_bounds-phase_by-end c = sym (length-take-le _ _ (omega (arith, c.if-n-le-FEW.true)))

@@ -1,9 +1,0 @@
--- `agrees` is safe and ends. Assumes nothing.
-use Rattle.std.proofs.Common.{◌-◌, rules}
-use Rattle.vectors.proofs.answer.agrees.Given as goal
-
-abbrev pub invariant-loop-k : goal.invariant-loop-k
-invariant-loop-k l = Unit {0}
-
-abbrev pub decreases-loop-k : goal.decreases-loop-k
-decreases-loop-k l = 4 - l.k
