@@ -13,6 +13,6 @@ sized_dates-requires c =
 
 pub returns : goal.returns
 returns c = record {
-      marks = c.phase-marks.ensures.marked;
-      planned = c.sized_dates.ensures;
-    }
+  marks = c.phase-marks.ensures.marked;
+  planned = c.sized_dates.ensures;
+}

@@ -14,6 +14,6 @@ reach-planned-requires c =
 
 pub returns : goal.returns
 returns c = record {
-      bounded = c.reach.ensures.bounded;
-      by_index = all_reached c.requires.dated c.reach-early.ensures c.reach-planned.ensures c.reach-begun.ensures c.reach.ensures;
-    }
+  bounded = c.reach.ensures.bounded;
+  by_index = all_reached c.requires.dated c.reach-early.ensures c.reach-planned.ensures c.reach-begun.ensures c.reach.ensures;
+}
