@@ -28,7 +28,7 @@ use Rattle.lists.proofs.Spans.{span_in_lem, span_length}
 use Rattle.tree.specs.Figures.{figure_of, is_unmarked, MarksLeaves}
 use Rattle.lists.proofs.Lists.{at_map}
 use Rattle.flat.proofs.Cells.{cell_inside}
-use Rattle.flat.proofs.Tables.{flat_same, flat_map}
+use Rattle.flat.proofs.Tables.{flat_same, flat_map_map}
 use Rattle.rows.specs.Rows.{numbers, optional}
 use Rattle.rows.proofs.Sets.{optional_two}
 use Rattle.format.proofs.Every.{every_in}
@@ -147,7 +147,7 @@ module _ (b : Book) (ok : InRange b) (marks : List ℕ) (m : MarksLeaves marks (
       rows_are =
           flat_same (point_at finishes planned figures) (λ p. period_row (period_point b p)) (span 0 (length finishes)) (λ p i. one p (omega (arith, span_in_lem 0 (length finishes) p i)))
           ∙ ap (λ (xs : List ℕ). flat_map (λ p. period_row (period_point b p)) (span 0 (length xs))) e
-          ∙ sym (flat_map (λ (row : List ℕ). row) period_row (period_points b) ∙ flat_map period_row (period_point b) (span 0 (length b.periods)))
+          ∙ sym (flat_map_map (λ (row : List ℕ). row) period_row (period_points b) ∙ flat_map_map period_row (period_point b) (span 0 (length b.periods)))
 
 -- ---- as the code is asked with them
 

@@ -28,7 +28,7 @@ use Rattle.model.specs.Tree.{parents, indices}
 use Rattle.model.specs.Costs.{cost_of}
 use Rattle.model.specs.Variances.{Variance, last_among, last_line, variance_from, variance_by, variance_of, variances}
 use Rattle.lists.proofs.Spans.{span_in_lem, span_length}
-use Rattle.flat.proofs.Tables.{flat_same, flat_map}
+use Rattle.flat.proofs.Tables.{flat_same, flat_map_map}
 use Rattle.flat.proofs.Spans.{rows_length, rows_cells}
 use Rattle.rows.specs.Rows.{numbers}
 use Rattle.spans.specs.Columns.{calendar_number, first_date, last_date}
@@ -63,7 +63,7 @@ variance_wide (some v) = refl
 -- the rows are one for each activity
 numbers_are : (b : Book) → numbers (variances_rows b) ≡ flat_map (λ i. variance_row (variance_by b i (last_line b i))) (indices (parents b))
 unfolding numbers variances_rows variances variance_of
-numbers_are b = flat_map (λ (row : List ℕ). row) variance_row (variances b) ∙ flat_map variance_row (variance_of b) (indices (parents b))
+numbers_are b = flat_map_map (λ (row : List ℕ). row) variance_row (variances b) ∙ flat_map_map variance_row (variance_of b) (indices (parents b))
 
 -- a line with days, then with minutes and costs, is the row of its variance
 row_varies :

@@ -25,7 +25,7 @@ pub slice_bounds-put_periods-end-2 : goal.slice_bounds-put_periods-end-2
 slice_bounds-put_periods-end-2 c = sym (length-take-le _ _ (omega (arith, c.if-out-n.false)))
 
 pub put_periods-requires : goal.put_periods-requires
-put_periods-requires c = (c.requires, sym (slice_bounds-put_periods-end-2 c))
+put_periods-requires c = record { opened = c.requires; out_len = sym (slice_bounds-put_periods-end-2 c) }
 
 pub returns : goal.returns
 returns c =

@@ -11,18 +11,18 @@ use Rattle.periods.proofs.put_figures.Goals as goal
 pub project_planned-marks-requires : goal.project_planned-marks-requires
 project_planned-marks-requires c =
     let s = c.requires in
-    (s.0, omega (arith, s.1.0.0, s.1.0.1, c.finishes-1.given))
+    record { opened = s.opened; out_len = omega (arith, s.finishes_len.0, s.finishes_len.1, c.finishes-1.given) }
 
 pub take_records-requires : goal.take_records-requires
 take_records-requires c =
     let s = c.requires in
-    let n = c.finishes-1.given ∙ s.1.0.0 in
-    (records_ranged s.0 n, (activities_most s.0.plan, omega (arith, s.1.0.2, n)))
+    let n = c.finishes-1.given ∙ s.finishes_len.0 in
+    record { every = records_ranged s.opened n; activities_bound = activities_most s.opened.plan; figures_len = omega (arith, s.finishes_len.2, n) }
 
 pub put_points-requires : goal.put_points-requires
 put_points-requires c =
     let s = c.requires in
-    let long = s.1.0 in
+    let long = s.finishes_len in
     let n = c.finishes-1.given ∙ long.0 in (
       omega (arith, n, long.1, c.planned-1.given),
       omega (arith, n, long.2, c.figures-1.given),
@@ -33,9 +33,9 @@ pub returns : goal.returns
 returns c =
     let o = c.requires.opened in
     let b = content c.args.book.now in
-    let long = c.requires.finishes_len.0 in
+    let long = c.requires.finishes_len in
     let n = c.finishes-1.given ∙ long.0 in
     let made = c.project_planned-marks.ensures in
     c.put_points.ensures
-    ∙ rows_are b (content_in_range c.args.book.now o.plan.accepted) c.project_planned-marks.result made.0 {before = c.args.figures.now} (c.fill_finishes.ensures ∙ sym o.ledger.periods) made.1
-    (records_listed o n) (omega (arith, n, long.2)) c.requires.finishes_len.1 c.take_records.ensures
+    ∙ rows_are b (content_in_range c.args.book.now o.plan.accepted) c.project_planned-marks.result made.marks {before = c.args.figures.now} (c.fill_finishes.ensures ∙ sym o.ledger.periods) made.planned
+    (records_listed o n) (omega (arith, n, long.2)) c.requires.by_index c.take_records.ensures

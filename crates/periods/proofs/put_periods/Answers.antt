@@ -10,7 +10,7 @@ use Rattle.periods.proofs.put_periods.Goals as goal
 use Rattle.periods.proofs.put_periods.Goals.{After-figures-1, After-figures-2-1, After-finishes-1, After-finishes-2-1, After-planned-1, After-planned-2-1, Start}
 
 most : (s : Start) → s.args.opened.ledger.periods.count ≤ 240
-most s = periods_most s.requires.0.plan s.requires.0.ledger
+most s = periods_most s.requires.opened.plan s.requires.opened.ledger
 
 pub slice_bounds-put_figures-end : goal.slice_bounds-put_figures-end
 slice_bounds-put_figures-end c = sym (length-take-le _ _ c.if-n-le24.true)
@@ -23,7 +23,7 @@ slice_bounds-put_figures-end-then-n-le24-2 c = sym (length-take-le _ _ (omega (a
 
 pub put_figures-requires : goal.put_figures-requires
 put_figures-requires c =
-    (c.requires.opened, ((sym (slice_bounds-put_figures-end (goal.at.put_figures-requires c).After-finishes-1), sym (slice_bounds-put_figures-end-then-n-le24 (goal.at.put_figures-requires c).After-planned-1), sym (slice_bounds-put_figures-end-then-n-le24-2 (goal.at.put_figures-requires c).After-figures-1), c.requires.out_len), zero_figures (c.args.opened.ledger.periods.count * 3) 72))
+    record { opened = c.requires.opened; finishes_len = (sym (slice_bounds-put_figures-end (goal.at.put_figures-requires c).After-finishes-1), sym (slice_bounds-put_figures-end-then-n-le24 (goal.at.put_figures-requires c).After-planned-1), sym (slice_bounds-put_figures-end-then-n-le24-2 (goal.at.put_figures-requires c).After-figures-1), c.requires.out_len); by_index = zero_figures (c.args.opened.ledger.periods.count * 3) 72 }
 
 pub slice_bounds-put_figures-end-2 : goal.slice_bounds-put_figures-end-2
 slice_bounds-put_figures-end-2 c = sym (length-take-le _ _ (most (goal.at.slice_bounds-put_figures-end-2 c).Start))
@@ -36,7 +36,7 @@ slice_bounds-put_figures-end-4 c = sym (length-take-le _ _ (omega (arith, most (
 
 pub put_figures-requires-2 : goal.put_figures-requires-2
 put_figures-requires-2 c =
-    (c.requires.opened, ((sym (slice_bounds-put_figures-end-2 (goal.at.put_figures-requires-2 c).After-finishes-2-1), sym (slice_bounds-put_figures-end-3 (goal.at.put_figures-requires-2 c).After-planned-2-1), sym (slice_bounds-put_figures-end-4 (goal.at.put_figures-requires-2 c).After-figures-2-1), c.requires.out_len), zero_figures (c.args.opened.ledger.periods.count * 3) 720))
+    record { opened = c.requires.opened; finishes_len = (sym (slice_bounds-put_figures-end-2 (goal.at.put_figures-requires-2 c).After-finishes-2-1), sym (slice_bounds-put_figures-end-3 (goal.at.put_figures-requires-2 c).After-planned-2-1), sym (slice_bounds-put_figures-end-4 (goal.at.put_figures-requires-2 c).After-figures-2-1), c.requires.out_len); by_index = zero_figures (c.args.opened.ledger.periods.count * 3) 720 }
 
 pub slice_bounds-finishes-end : goal.slice_bounds-finishes-end
 slice_bounds-finishes-end c = c.if-n-le24.true

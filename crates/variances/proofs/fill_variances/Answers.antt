@@ -13,8 +13,8 @@ returns-then-lines-eq0 c =
 pub take_lines-requires : goal.take_lines-requires
 take_lines-requires c =
     let lines = lines_are c.requires.opened.plan c.requires.opened.ledger.baseline _ (c.lines_of-lines.ensures _ _) in
-    (lines, (c.out-1.given ∙ c.requires.out_len, c.clear.ensures))
+    record { lines = lines; out_len = (c.out-1.given ∙ c.requires.out_len, c.clear.ensures) }
 
 pub vary_lines-requires : goal.vary_lines-requires
 vary_lines-requires c =
-    (c.requires.opened.plan, c.take_lines.ensures)
+    record { plan_of = c.requires.opened.plan; out_value = c.take_lines.ensures }

@@ -21,7 +21,7 @@ pub slice_bounds-fill_variances-end-2 : goal.slice_bounds-fill_variances-end-2
 slice_bounds-fill_variances-end-2 c = sym (length-take-le _ _ (omega (arith, c.if-out-n.false)))
 
 pub fill_variances-requires : goal.fill_variances-requires
-fill_variances-requires c = (c.requires, sym (slice_bounds-fill_variances-end-2 c))
+fill_variances-requires c = record { opened = c.requires; out_len = sym (slice_bounds-fill_variances-end-2 c) }
 
 pub returns : goal.returns
 returns c =

@@ -8,35 +8,32 @@ use Rattle.tree.proofs.Figured.{rolled_long}
 use Rattle.variances.proofs.Varying.{lines_tables, lines_dated, calendars_ranged, lines_named, days_are, days_tables, days_count, days_timed, rows_are}
 use borrow.Author.Rules.{rules}
 use Rattle.variances.proofs.vary_in.Goals as goal
-use Rattle.variances.proofs.vary_in.Goals.{After-fill_schedule, After-slice_known-1, Start}
-
-abbrev start : (filled : After-fill_schedule) → Start
-start filled = filled.before.before.before.before.before
+use Rattle.variances.proofs.vary_in.Goals.{Start}
 
 range : (s : Start) → InRange (content s.args.book.now)
-range s = content_in_range s.args.book.now s.requires.0.accepted
+range s = content_in_range s.args.book.now s.requires.plan_of.accepted
 
 pub count_days-requires : goal.count_days-requires
 count_days-requires c =
-    let s = start (goal.at.count_days-requires c).After-fill_schedule in
+    let s = (goal.at.count_days-requires c).Start in
     let b = content s.args.book.now in
     let e = c.fill_schedule.ensures in
-    let f = s.pre.1.1 in
-    (calendars_ranged s.pre.0, (lines_tables b _ e f, (lines_named s.pre.0 e f, lines_dated b _ e f (range s))))
+    let f = s.requires.out_value in
+    record { every = calendars_ranged s.requires.plan_of; tables = lines_tables b _ e f; by_index = lines_named s.requires.plan_of e f; dated = lines_dated b _ e f (range s) }
 
 pub settle_rows-requires : goal.settle_rows-requires
 settle_rows-requires c =
-    let s = start (goal.at.settle_rows-requires c).After-slice_known-1 in
+    let s = (goal.at.settle_rows-requires c).Start in
     let b = content s.args.book.now in
     let e = c.fill_schedule.ensures in
-    let days = days_are s.pre.0 e s.pre.1.1 c.count_days.ensures in (
-      (days_tables b _ e refl (range s) days, omega (arith, rolled_long b c.rolled_costs.ensures, days_count b _ e refl (range s) days)),
-      days_timed b _ e refl (range s) days,
-    )
+    let days = days_are s.requires.plan_of e s.requires.out_value c.count_days.ensures in record {
+      tables = (days_tables b _ e refl (range s) days, omega (arith, rolled_long b c.rolled_costs.ensures, days_count b _ e refl (range s) days));
+      timed = days_timed b _ e refl (range s) days;
+    }
 
 pub returns : goal.returns
 returns c =
-    let s = start (goal.at.returns c).After-slice_known-1 in
+    let s = (goal.at.returns c).Start in
     let e = c.fill_schedule.ensures in
-    let days = days_are s.pre.0 e s.pre.1.1 c.count_days.ensures in
+    let days = days_are s.requires.plan_of e s.requires.out_value c.count_days.ensures in
     rows_are (content s.args.book.now) _ e refl (range s) days c.rolled_costs.ensures c.settle_rows.ensures

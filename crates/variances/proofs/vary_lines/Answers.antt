@@ -14,12 +14,12 @@ most c = activities_most c.requires.plan_of
 pub vary_in-requires : goal.vary_in-requires
 vary_in-requires c =
     let s = c.requires in
-    (s.0, ((length-take-le _ _ (omega (arith, c.if-n-le-FEW.true)), length-take-le _ _ (omega (arith, c.if-n-le-FEW.true))), s.1))
+    record { plan_of = s.plan_of; schedule_len = (length-take-le _ _ (omega (arith, c.if-n-le-FEW.true)), length-take-le _ _ (omega (arith, c.if-n-le-FEW.true))); out_value = s.out_value }
 
 pub vary_in-requires-2 : goal.vary_in-requires-2
 vary_in-requires-2 c =
     let s = c.requires in
-    (s.0, ((length-take-le _ _ (omega (arith, most (goal.at.vary_in-requires-2 c).Else-n-le-FEW)), length-take-le _ _ (omega (arith, most (goal.at.vary_in-requires-2 c).Else-n-le-FEW))), s.1))
+    record { plan_of = s.plan_of; schedule_len = (length-take-le _ _ (omega (arith, most (goal.at.vary_in-requires-2 c).Else-n-le-FEW)), length-take-le _ _ (omega (arith, most (goal.at.vary_in-requires-2 c).Else-n-le-FEW))); out_value = s.out_value }
 
 pub overflow_mul-schedule : goal.overflow_mul-schedule
 overflow_mul-schedule c = omega (arith, c.if-n-le-FEW.true)

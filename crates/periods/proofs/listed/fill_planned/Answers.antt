@@ -16,10 +16,10 @@ use Rattle.planned.proofs.Settling.{leaves_all}
 use Rattle.periods.proofs.listed.fill_planned.Goals as goal
 
 pub loop-i-init : goal.loop-i-init
-loop-i-init c = let long = c.requires.are_tabled.1 in (long, λ b d m. mapped_none _ _ _ long)
+loop-i-init c = let long = c.requires.out_len in (long, λ b d m. mapped_none _ _ _ long)
 
 pub leaves_planned-requires : goal.leaves_planned-requires
-leaves_planned-requires c = c.requires.are_tabled.0
+leaves_planned-requires c = c.requires.are_tabled
 
 pub bounds-out-i : goal.bounds-out-i
 bounds-out-i c = omega (arith, c.loop-i.invariant.0, c.loop-i-test.true)
@@ -33,7 +33,7 @@ loop-i-preserved c =
     )
 
 pub shape_of-out : goal.shape_of-out
-shape_of-out c = c.loop-i.invariant.0 ∙ sym c.requires.are_tabled.1
+shape_of-out c = c.loop-i.invariant.0 ∙ sym c.requires.out_len
 
 pub returns : goal.returns
 returns c = λ b d m. mapped_end (c.loop-i.invariant.1 b d m) c.loop-i-test.false

@@ -5,4 +5,4 @@ use Rattle.planned.proofs.Reaching.{reach_full}
 use Rattle.periods.proofs.listed.large_dates.Goals as goal
 
 pub dates_by-requires : goal.dates_by-requires
-dates_by-requires c = let s = c.requires in (s.0, (omega (arith, reach_full s.0, c.dates_by-arg-1.given), s.1))
+dates_by-requires c = let s = c.requires in record { reach = s.reach; known_in_bounds = omega (arith, reach_full s.reach, c.dates_by-arg-1.given); marks_leaves = s.marks_leaves; out_len = s.out_len }

@@ -12,7 +12,7 @@ use Rattle.periods.proofs.listed.project_planned.Goals as goal
 use Rattle.periods.proofs.listed.project_planned.Goals.{After-budgets-1, After-budgets-2-1, After-listed-1, After-listed-2-1, Start}
 
 most : (s : Start) → s.args.opened.plan.activities.count ≤ 500
-most s = activities_most s.requires.0.plan
+most s = activities_most s.requires.opened.plan
 
 pub returns-then-n-eq0 : goal.returns-then-n-eq0
 returns-then-n-eq0 c =
@@ -30,7 +30,7 @@ pub slice_bounds-plan_dates-end-then-n-le-FEW : goal.slice_bounds-plan_dates-end
 slice_bounds-plan_dates-end-then-n-le-FEW c = front_long 32 (pos 0) _ c.if-n-le-FEW.true
 
 pub plan_dates-requires : goal.plan_dates-requires
-plan_dates-requires c = let s = c.requires in (s.0, ((sym (slice_bounds-plan_dates-end (goal.at.plan_dates-requires c).After-listed-1), sym (slice_bounds-plan_dates-end-then-n-le-FEW (goal.at.plan_dates-requires c).After-budgets-1)), s.1))
+plan_dates-requires c = let s = c.requires in record { opened = s.opened; listed_len = (sym (slice_bounds-plan_dates-end (goal.at.plan_dates-requires c).After-listed-1), sym (slice_bounds-plan_dates-end-then-n-le-FEW (goal.at.plan_dates-requires c).After-budgets-1)); out_len = s.out_len }
 
 pub slice_bounds-plan_dates-end-2 : goal.slice_bounds-plan_dates-end-2
 slice_bounds-plan_dates-end-2 c = front_long {A = ℕ} 1500 0 _ (omega (arith, most (goal.at.slice_bounds-plan_dates-end-2 c).Start))
@@ -39,7 +39,7 @@ pub slice_bounds-plan_dates-end-3 : goal.slice_bounds-plan_dates-end-3
 slice_bounds-plan_dates-end-3 c = front_long 500 (pos 0) _ (most (goal.at.slice_bounds-plan_dates-end-3 c).Start)
 
 pub plan_dates-requires-2 : goal.plan_dates-requires-2
-plan_dates-requires-2 c = let s = c.requires in (s.0, ((sym (slice_bounds-plan_dates-end-2 (goal.at.plan_dates-requires-2 c).After-listed-2-1), sym (slice_bounds-plan_dates-end-3 (goal.at.plan_dates-requires-2 c).After-budgets-2-1)), s.1))
+plan_dates-requires-2 c = let s = c.requires in record { opened = s.opened; listed_len = (sym (slice_bounds-plan_dates-end-2 (goal.at.plan_dates-requires-2 c).After-listed-2-1), sym (slice_bounds-plan_dates-end-3 (goal.at.plan_dates-requires-2 c).After-budgets-2-1)); out_len = s.out_len }
 
 pub clear-requires : goal.clear-requires
 clear-requires c = c.requires.out_len

@@ -26,7 +26,7 @@ take_record-requires c =
     subst (PeriodRecordInRange (length c.args.finishes.now) c.args.activities) (reading_is _ _ _ _ loop.invariant.0 h c.read_period_record-x.ensures x)
     (c.requires.every loop.i x (omega (arith, h, read_length (period_record (length c.args.finishes.now) c.args.activities) c.args.book.now c.args.list.count c.args.list.first)))
     in
-    ((omega (arith, range.activity, c.requires.activities_bound.0), range.period), loop.invariant.1.changed.long ∙ c.requires.activities_bound.1)
+    record { activity_bound = (omega (arith, range.activity, c.requires.activities_bound), range.period); figures_len = loop.invariant.1.changed.long ∙ c.requires.figures_len }
 
 pub overflow_add-i : goal.overflow_add-i
 overflow_add-i c = omega (arith, c.loop-i-test.true, c.well_formed.1.0)

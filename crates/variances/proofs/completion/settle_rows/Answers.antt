@@ -14,10 +14,10 @@ loop-i-init c = changing_none _ _ _ _ c.requires.tables.0.rows
 pub settle_row-requires : goal.settle_row-requires
 settle_row-requires c =
     let loop = c.loop-i in
-    let h = c.loop-i-test.true in (
-      (omega (arith, c.requires.tables.0.scheduled, row_inside 13 h), omega (arith, c.requires.tables.1, row_inside 3 h), changing_room loop.invariant h),
-      (omega (arith, changing_cell loop.invariant 3 (omega arith), c.requires.timed.lines loop.i h), c.requires.timed.working loop.i h),
-    )
+    let h = c.loop-i-test.true in record {
+      i_in_bounds = (omega (arith, c.requires.tables.0.scheduled, row_inside 13 h), omega (arith, c.requires.tables.1, row_inside 3 h), changing_room loop.invariant h);
+      minutes = (omega (arith, changing_cell loop.invariant 3 (omega arith), c.requires.timed.lines loop.i h), c.requires.timed.working loop.i h);
+    }
 
 pub loop-i-preserved : goal.loop-i-preserved
 loop-i-preserved c = changing_more c.loop-i.invariant c.settle_row.ensures

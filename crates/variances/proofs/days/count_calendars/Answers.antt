@@ -16,7 +16,7 @@ use Rattle.variances.proofs.days.count_calendars.Goals as goal
 use Rattle.variances.proofs.days.count_calendars.Goals.{After-read_calendar-calendar}
 
 pub loop-k-init : goal.loop-k-init
-loop-k-init c = (reading_none _ _ _ _, refl, refl, below_none _ c.requires.tables.0)
+loop-k-init c = (reading_none _ _ _ _, refl, refl, below_none _ c.requires.tables)
 
 is_next : (c : After-read_calendar-calendar) (d : Calendar) →
     get_or (alike_in calendar c.args.book.now c.args.list) c.loop-k.k d ≡ calendar_of c.args.book.now c.read_calendar-calendar.result
@@ -29,16 +29,12 @@ count_calendar-requires c =
     let loop = c.loop-k in
     let a = c.args in
     let x = calendar_of a.book.now c.read_calendar-calendar.result in
-    let reach = c.requires.tables.1.1 in (
-      subst CalendarInRange (is_next (goal.at.count_calendar-requires c).After-read_calendar-calendar x) (c.requires.every loop.k x (omega (arith, c.loop-k-test.true, read_length calendar a.book.now a.list.count a.list.first))),
-      (
-        below_tables loop.invariant.3,
-        (
-          below_reaches loop.invariant.3 reach.0,
-          (reach.1.0, record { days_room = omega (arith, reach.1.1.days_room, loop.invariant.1); counts_room = omega (arith, reach.1.1.counts_room, loop.invariant.2) }),
-        ),
-      ),
-    )
+    record {
+      calendar_in_range = subst CalendarInRange (is_next (goal.at.count_calendar-requires c).After-read_calendar-calendar x) (c.requires.every loop.k x (omega (arith, c.loop-k-test.true, read_length calendar a.book.now a.list.count a.list.first)));
+      tables = below_tables loop.invariant.3;
+      by_index = below_reaches loop.invariant.3 c.requires.by_index_2;
+      bounded = (c.requires.bounded.0, record { days_room = omega (arith, c.requires.bounded.1.days_room, loop.invariant.1); counts_room = omega (arith, c.requires.bounded.1.counts_room, loop.invariant.2) });
+    }
 
 pub overflow_add-k : goal.overflow_add-k
 overflow_add-k c =
@@ -66,4 +62,4 @@ shape_of-out c = below_length c.loop-k.invariant.3
 pub returns : goal.returns
 unfolding elements
 returns c =
-    below_all c.loop-k.invariant.3 c.requires.tables.1.0 c.loop-k-test.false
+    below_all c.loop-k.invariant.3 c.requires.by_index c.loop-k-test.false

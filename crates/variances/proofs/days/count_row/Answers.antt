@@ -10,13 +10,13 @@ use Rattle.variances.proofs.days.count_row.Goals as goal
 
 pub between-start-requires : goal.between-start-requires
 between-start-requires c =
-    let w = c.requires.reaches.0 (sym c.is_under.ensures ∙ c.if-is_under.true) in
-    (has_count c.requires.reaches.1 w.early_start, has_count c.requires.reaches.1 (start_reached c.args.out.now w))
+    let w = c.requires.reaches (sym c.is_under.ensures ∙ c.if-is_under.true) in
+    record { has_count = has_count c.requires.counted w.early_start; has_count_2 = has_count c.requires.counted (start_reached c.args.out.now w) }
 
 pub between-finish-requires : goal.between-finish-requires
 between-finish-requires c =
-    let w = c.requires.reaches.0 (sym c.is_under.ensures ∙ c.if-is_under.true) in
-    (has_count c.requires.reaches.1 w.early_finish, has_count c.requires.reaches.1 (finish_reached c.args.out.now w))
+    let w = c.requires.reaches (sym c.is_under.ensures ∙ c.if-is_under.true) in
+    record { has_count = has_count c.requires.counted w.early_finish; has_count_2 = has_count c.requires.counted (finish_reached c.args.out.now w) }
 
 pub bounds-out-at-then-is_under-3 : goal.bounds-out-at-then-is_under-3
 bounds-out-at-then-is_under-3 c =

@@ -17,14 +17,13 @@ pub count_row-requires : goal.count_row-requires
 count_row-requires c =
     let a = c.args in
     let loop = c.loop-i in
-    let h = c.loop-i-test.true in (
-      (omega (arith, c.requires.tables.scheduled, row_inside 13 h), changing_room loop.invariant h),
-      (
-        subst (λ (row : List ℕ). is_under a.schedule.now a.number loop.i row ≡ true → Reaches a.reach a.schedule.now loop.i row)
-            (sym (loop.invariant.left loop.i (omega arith))) (c.requires.by_index.0 loop.i h),
-        c.requires.by_index.1,
-      ),
-    )
+    let h = c.loop-i-test.true in record {
+      i_in_bounds = (omega (arith, c.requires.tables.scheduled, row_inside 13 h), changing_room loop.invariant h);
+      reaches =
+          subst (λ (row : List ℕ). is_under a.schedule.now a.number loop.i row ≡ true → Reaches a.reach a.schedule.now loop.i row)
+          (sym (loop.invariant.left loop.i (omega arith))) (c.requires.by_index loop.i h);
+      counted = c.requires.counted;
+    }
 
 pub loop-i-preserved : goal.loop-i-preserved
 loop-i-preserved c = changing_more c.loop-i.invariant c.count_row.ensures

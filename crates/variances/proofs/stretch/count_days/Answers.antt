@@ -13,16 +13,16 @@ pub count_short-requires : goal.count_short-requires
 count_short-requires c =
     let s = c.requires in
     let all = c.reach_all-all.ensures in
-    (s.0, (s.1.0, (s.1.1.0, (all.1, (all.0, c.if-all.true)))))
+    record { every = s.every; tables = s.tables; by_index = s.by_index; by_index_2 = all.by_index; bounded = (all.bounded, c.if-all.true) }
 
 pub count_medium-requires : goal.count_medium-requires
 count_medium-requires c =
     let s = c.requires in
     let all = c.reach_all-all.ensures in
-    (s.0, (s.1.0, (s.1.1.0, (all.1, (all.0, c.if-all-2.true)))))
+    record { every = s.every; tables = s.tables; by_index = s.by_index; by_index_2 = all.by_index; bounded = (all.bounded, c.if-all-2.true) }
 
 pub count_long-requires : goal.count_long-requires
 count_long-requires c =
     let s = c.requires in
     let all = c.reach_all-all.ensures in
-    (s.0, (s.1.0, (s.1.1.0, (all.1, all.0))))
+    record { every = s.every; tables = s.tables; by_index = s.by_index; by_index_2 = all.by_index; bounded = all.bounded }

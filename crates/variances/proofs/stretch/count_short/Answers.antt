@@ -6,5 +6,10 @@ use Rattle.variances.proofs.stretch.count_short.Goals as goal
 pub count_calendars-requires : goal.count_calendars-requires
 count_calendars-requires c =
     let given = c.requires in
-    let reach = given.1.1.1 in
-    (given.0, (given.1.0, (given.1.1.0, (reach.0, (reach.1.0, record { days_room = omega (arith, reach.1.1); counts_room = omega (arith, reach.1.1) })))))
+    record {
+      every = given.every;
+      tables = given.tables;
+      by_index = given.by_index;
+      by_index_2 = given.by_index_2;
+      bounded = (given.bounded.0, record { days_room = omega (arith, given.bounded.1); counts_room = omega (arith, given.bounded.1) });
+    }

@@ -6,11 +6,11 @@ use Rattle.variances.proofs.stretch.reach_all.Goals as goal
 
 pub reach-early-requires : goal.reach-early-requires
 reach-early-requires c =
-    ((c.requires.tables.scheduled, omega arith), (record { least = omega arith; latest = omega arith; most = omega arith }, (early_dates c.requires.dated).0))
+    record { table_len = (c.requires.tables.scheduled, omega arith); bounded = record { least = omega arith; latest = omega arith; most = omega arith }; are_dates = (early_dates c.requires.dated).0 }
 
 pub reach-planned-requires : goal.reach-planned-requires
 reach-planned-requires c =
-    ((c.requires.tables.scheduled, omega arith), (c.reach-early.ensures.bounded, (early_dates c.requires.dated).1))
+    record { table_len = (c.requires.tables.scheduled, omega arith); bounded = c.reach-early.ensures.bounded; are_dates = (early_dates c.requires.dated).1 }
 
 pub returns : goal.returns
 returns c = record {
