@@ -9,7 +9,7 @@ returns-then-opening c = call_refused _ _ _ _ c.open_for-opening.ensures c.if-op
 pub indices_of-requires : goal.indices_of-requires
 indices_of-requires c =
     let asked = c.open_for-opening.ensures in
-    (asked.opens c.if-opening.false, asked_in_book asked c.if-opening.false)
+    record { opened = asked.opens c.if-opening.false; activity_lt_count = asked_in_book asked c.if-opening.false }
 
 pub returns : goal.returns
 returns c =

@@ -9,7 +9,7 @@ returns-then-opening c = call_refused _ _ _ _ (c.ask_activity-opening.ensures _ 
 pub performance_of-requires : goal.performance_of-requires
 performance_of-requires c =
     let asked = c.ask_activity-opening.ensures _ _ c.open.ensures in
-    (asked.opens c.if-opening.false, asked_in_book asked c.if-opening.false)
+    record { opened = asked.opens c.if-opening.false; activity_lt_count = asked_in_book asked c.if-opening.false }
 
 pub returns : goal.returns
 returns c =
