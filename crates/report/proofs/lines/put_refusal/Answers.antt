@@ -7,6 +7,6 @@ use Rattle.report.proofs.lines.put_refusal.Goals as goal
 pub returns : goal.returns
 unfolding refusal_line
 returns c = let line = c.put_line in record {
-      upper_bound = omega (arith, line.ensures.upper_bound);
-      out_after = line.ensures.out_after;
-    }
+  upper_bound = omega (arith, line.ensures.upper_bound);
+  out_after = line.ensures.out_after;
+}
