@@ -10,7 +10,7 @@ use lib.Seq.{drop-append-le, drop-cons, drop-drop, get_or-drop, take_at, take_al
 use Rattle.lists.specs.Lists.{span}
 use Rattle.lists.proofs.Spans.{span_in_lem, made_at, made_length, elements}
 use Rattle.flat.proofs.Cells.{row_inside}
-use Rattle.flat.proofs.Tables.{flat_same, flat_map, flat_length, flat_drop}
+use Rattle.flat.proofs.Tables.{flat_same, flat_map_map, flat_length, flat_drop}
 use Rattle.format.specs.Book.{Book}
 use Rattle.rows.specs.Rows.{numbers}
 use Rattle.rows.proofs.Numbers.{numbers_flat}
@@ -124,7 +124,7 @@ pub outline_in :
 unfolding outline_lines listed_text outline_rows
 outline_in book date rest =
     flat_same (outline_line_in lent) (λ k. outline_line book date (line_at xs k)) (span 0 (length xs)) (λ k m. at k (span_in_lem 0 (length xs) k m).1)
-    ∙ sym (flat_map (outline_line book date) (line_at xs) (span 0 (length xs)))
+    ∙ sym (flat_map_map (outline_line book date) (line_at xs) (span 0 (length xs)))
     ∙ ap (flat_map (outline_line book date)) (elements xs (model.line 0 0))
   where
     xs : List Line
@@ -147,7 +147,7 @@ pub points_in_lem :
 unfolding point_lines
 points_in_lem points rest =
     flat_same (point_line_in lent) (λ i. curve_line (point i)) (span 0 n) (λ i m. at i (span_in_lem 0 n i m).1)
-    ∙ sym (flat_map curve_line point (span 0 n))
+    ∙ sym (flat_map_map curve_line point (span 0 n))
     ∙ ap (flat_map curve_line) (ext_get_or none (map point (span 0 n)) points (made_length point n) (λ i h. made_at point none n i (omega (arith, made_length point n))))
   where
     none : Dated

@@ -8,7 +8,10 @@ use Rattle.report.proofs.put_earned.Goals as goal
 
 pub put_accepted-requires : goal.put_accepted-requires
 put_accepted-requires c =
-    (earned_in_lem _ (λ i. omega (arith, c.type_inv.book i)) c.asked_date-day.ensures c.earned_value-reply.ensures (search rules) (search rules) c.in-Accepted.is, search rules)
+    record {
+      earned_in = earned_in_lem _ (λ i. omega (arith, c.type_inv.book i)) c.asked_date-day.ensures c.earned_value-reply.ensures (search rules) (search rules) c.in-Accepted.is;
+      in_bounds = search rules;
+    }
 
 pub returns-in-Refused : goal.returns-in-Refused
 returns-in-Refused c =

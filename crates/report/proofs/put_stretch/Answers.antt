@@ -9,7 +9,10 @@ use Rattle.report.proofs.put_stretch.Goals as goal
 pub put_points-requires : goal.put_points-requires
 put_points-requires c =
     let few = curve_few _ _ _ c.planned_curve-reply.ensures c.in-Accepted.is in
-    (search (rules, few), search (rules, few))
+    record {
+      count_in_bounds = search (rules, few);
+      count_in_bounds_2 = search (rules, few);
+    }
 
 pub returns-in-Accepted : goal.returns-in-Accepted
 returns-in-Accepted c =

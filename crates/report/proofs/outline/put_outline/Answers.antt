@@ -9,10 +9,10 @@ use Rattle.report.proofs.outline.put_outline.Goals as goal
 pub put_outline_rows-requires : goal.put_outline_rows-requires
 put_outline_rows-requires c =
     let bytes : Bytes c.args.book.now = λ i. omega (arith, c.type_inv.book i) in
-    let asked = c.asked_date-day.ensures in (
-      outline_room _ bytes asked c.outline-reply.ensures c.in-Accepted.is (search rules),
-      omega (arith, outline_few _ bytes asked c.outline-reply.ensures c.in-Accepted.is, c.requires),
-    )
+    let asked = c.asked_date-day.ensures in record {
+      outline_width_in_bounds = outline_room _ bytes asked c.outline-reply.ensures c.in-Accepted.is (search rules);
+      count_in_bounds = omega (arith, outline_few _ bytes asked c.outline-reply.ensures c.in-Accepted.is, c.requires);
+    }
 
 pub returns-in-Accepted : goal.returns-in-Accepted
 returns-in-Accepted c =
