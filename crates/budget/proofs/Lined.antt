@@ -16,7 +16,7 @@ use Rattle.tree.specs.Figures.{parents_of, figure_of}
 use Rattle.tree.specs.Tables.{rolled_costs}
 use Rattle.model.proofs.Tree.{parents_count}
 use Rattle.tree.proofs.Figured.{rolled_at}
-use Rattle.flat.proofs.Tables.{flat_map}
+use Rattle.flat.proofs.Tables.{flat_map_map}
 use Rattle.rows.specs.Rows.{numbers}
 use Rattle.answers.specs.Rows.{budget_row, budget_rows}
 use Rattle.ledger.specs.Accounts.{booked, marked_of, MarksLines}
@@ -42,7 +42,7 @@ module _ (book : Book) where
   -- the rows that the code puts
   pub rows_are : {lines : List BudgetLine} → lines ≡ budget_lines book → flat_map budget_row lines ≡ numbers (budget_rows book)
   unfolding numbers budget_rows
-  rows_are e = ap (flat_map budget_row) e ∙ sym (flat_map (λ (row : List ℕ). row) budget_row (budget_lines book))
+  rows_are e = ap (flat_map budget_row) e ∙ sym (flat_map_map (λ (row : List ℕ). row) budget_row (budget_lines book))
 
   -- ---- a book without activities
 

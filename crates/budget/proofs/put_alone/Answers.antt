@@ -18,10 +18,10 @@ use Rattle.budget.proofs.Lined.{alone, rows_are}
 use Rattle.budget.proofs.Sized.{budget_sized}
 use borrow.Author.Rules.{rules}
 use Rattle.budget.proofs.put_alone.Goals as goal
-use Rattle.budget.proofs.put_alone.Goals.{After-put_project-arg-1, After-shared_slice_known-1, Start}
+use Rattle.budget.proofs.put_alone.Goals.{Start}
 
 none_active : (s : Start) → length (content s.args.book.now).activities ≡ 0
-none_active s = activities_count s.requires.0.plan ∙ s.requires.1
+none_active s = activities_count s.requires.opened.plan ∙ s.requires.count_value
 
 -- the project's line is the only one
 one_row : (s : Start) → Sized (budget_rows (content s.args.book.now)) 1 10
@@ -32,7 +32,7 @@ returns-then-out-lt10 c =
     no_room (budget_rows (content c.args.book.now)) _ (one_row (goal.at.returns-then-out-lt10 c).Start) (omega (arith, c.if-out-lt10.true))
 
 pub take_ledger-requires : goal.take_ledger-requires
-take_ledger-requires c = let o = c.requires.opened in ((plan_budgets o.plan o.ledger, plan_log o.plan o.ledger), (refl, refl))
+take_ledger-requires c = let o = c.requires.opened in record { budgets = (plan_budgets o.plan o.ledger, plan_log o.plan o.ledger); accounts_value = (refl, refl) }
 
 pub slice_bounds-put_project-end-2 : goal.slice_bounds-put_project-end-2
 slice_bounds-put_project-end-2 c =
@@ -45,9 +45,9 @@ pub returns : goal.returns
 unfolding flat_map
 returns c =
     let book = content c.args.book.now in
-    let row = budget_row (line_in c.take_ledger.new.1.1.1.0 none 0 (pos 0)) in
-    in_front (budget_rows book) c.args.out.now (one_row (goal.at.returns c).After-shared_slice_known-1) (omega (arith, c.if-out-lt10.false)) _
+    let row = budget_row (line_in c.take_ledger.new.accounts none 0 (pos 0)) in
+    in_front (budget_rows book) c.args.out.now (one_row (goal.at.returns c).Start) (omega (arith, c.if-out-lt10.false)) _
     (c.put_project.ensures
-    ∙ sets_whole row (take 10 c.args.out.now) (row_long _ ∙ slice_bounds-put_project-end-2 (goal.at.returns c).After-put_project-arg-1)
+    ∙ sets_whole row (take 10 c.args.out.now) (row_long _ ∙ sym (length-take-le 10 c.args.out.now (omega (arith, c.if-out-lt10.false))))
     ∙ sym (append-nil row)
-    ∙ rows_are book (alone book (none_active (goal.at.returns c).After-shared_slice_known-1) c.take_ledger.ensures.table))
+    ∙ rows_are book (alone book (none_active (goal.at.returns c).Start) c.take_ledger.ensures.table))

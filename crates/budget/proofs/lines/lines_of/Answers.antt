@@ -14,12 +14,12 @@ most c = activities_most c.requires.plan
 pub lines_in-requires : goal.lines_in-requires
 lines_in-requires c =
     let opened = c.requires in
-    (opened, (length-take-le _ _ (omega (arith, c.if-n-le-FEW.true)), length-take-le _ _ c.if-n-le-FEW.true, length-take-le _ _ (omega (arith, c.if-n-le-FEW.true))))
+    record { opened = opened; schedule_len = (length-take-le _ _ (omega (arith, c.if-n-le-FEW.true)), length-take-le _ _ c.if-n-le-FEW.true, length-take-le _ _ (omega (arith, c.if-n-le-FEW.true))) }
 
 pub lines_in-requires-2 : goal.lines_in-requires-2
 lines_in-requires-2 c =
     let opened = c.requires in
-    (opened, (length-take-le _ _ (omega (arith, most (goal.at.lines_in-requires-2 c).Else-n-le-FEW)), length-take-le _ _ (most (goal.at.lines_in-requires-2 c).Else-n-le-FEW), length-take-le _ _ (omega (arith, most (goal.at.lines_in-requires-2 c).Else-n-le-FEW))))
+    record { opened = opened; schedule_len = (length-take-le _ _ (omega (arith, most (goal.at.lines_in-requires-2 c).Else-n-le-FEW)), length-take-le _ _ (most (goal.at.lines_in-requires-2 c).Else-n-le-FEW), length-take-le _ _ (omega (arith, most (goal.at.lines_in-requires-2 c).Else-n-le-FEW))) }
 
 pub overflow_mul-schedule : goal.overflow_mul-schedule
 overflow_mul-schedule c = omega (arith, c.if-n-le-FEW.true)

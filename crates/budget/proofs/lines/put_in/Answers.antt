@@ -20,36 +20,32 @@ use Rattle.budget.proofs.Accepted.{parents_count, numbers_parents, plan_parents}
 use Rattle.budget.proofs.Lined.{scheduled_at, rows_are}
 use borrow.Author.Rules.{rules}
 use Rattle.budget.proofs.lines.put_in.Goals as goal
-use Rattle.budget.proofs.lines.put_in.Goals.{After-scheduled-arg-1, After-scheduled-whole, Start}
+use Rattle.budget.proofs.lines.put_in.Goals.{After-scheduled-whole}
 
-abbrev start : (c : After-scheduled-whole) → Start
-start c = c.before.before.before.before.before.before
+few : (c : After-scheduled-whole) → length (parents (content c.args.book.now)) ≤ 500
+few c = omega (arith, parents_count c.requires.opened.plan, activities_most c.requires.opened.plan)
 
-few : (s : Start) → length (parents (content s.args.book.now)) ≤ 500
-few s = omega (arith, parents_count s.requires.0.plan, activities_most s.requires.0.plan)
-
-above : (s : Start) → AreParents (content s.args.book.now) s.args.parents.now
-above s = plan_parents s.requires.0.plan s.requires.1.0.1
+above : (c : After-scheduled-whole) → AreParents (content c.args.book.now) c.args.parents.now
+above c = plan_parents c.requires.opened.plan c.requires.schedule_value.1
 
 -- what is put is the lines of the book
 lines :
     (c : After-scheduled-whole) →
-    lines_in (start c).args.accounts.now (start c).args.parents.now c.scheduled-whole.new.1.1.1.0 (start c).args.marks.now (seen w64 c.scheduled-whole.result)
-    ≡ budget_lines (content (start c).args.book.now)
+    lines_in c.args.accounts.now c.args.parents.now c.scheduled-whole.new.out c.args.marks.now (seen w64 c.scheduled-whole.result)
+    ≡ budget_lines (content c.args.book.now)
 lines c =
-    let s = start c in
-    let book = content s.args.book.now in
-    lines_are book s.args.parents.now s.args.marks.now c.scheduled-whole.new.1.1.1.0 (numbers_parents (above s)) (few s)
-    (parents_of_lem s.pre.0.plan s.pre.1.0.1) s.pre.1.1.0.lined (scheduled_at book c.scheduled-whole.ensures.each) (back w64 c.scheduled-whole.result c.scheduled-whole.type_inv ∙ c.scheduled-whole.ensures.whole) s.pre.1.1.0.table
+    let book = content c.args.book.now in
+    lines_are book c.args.parents.now c.args.marks.now c.scheduled-whole.new.out (numbers_parents (above c)) (few c)
+    (parents_of_lem c.requires.opened.plan c.requires.schedule_value.1) c.requires.handed.lined (scheduled_at book c.scheduled-whole.ensures.each) (back w64 c.scheduled-whole.result c.scheduled-whole.type_inv ∙ c.scheduled-whole.ensures.whole) c.requires.handed.table
 
 pub put_lines-requires : goal.put_lines-requires
 put_lines-requires c =
-    let s = start (goal.at.put_lines-requires c).After-scheduled-arg-1 in
-    let book = content s.args.book.now in (
-      (omega (arith, numbers_parents (above s), few s), rolled_long book c.scheduled-whole.ensures.each ∙ ap (λ (k : ℕ). k * 3) (sym (above_length (above s)))),
-      s.pre.1.1.1.1 ∙ ap (λ (ls : List BudgetLine). length ls * 10) (sym (lines (goal.at.put_lines-requires c).After-scheduled-arg-1)),
-    )
+    let s = (goal.at.put_lines-requires c).After-scheduled-whole in
+    let book = content c.args.book.now in record {
+      parents_len_bound = (omega (arith, numbers_parents (above s), few s), rolled_long book c.scheduled-whole.ensures.each ∙ ap (λ (k : ℕ). k * 3) (sym (above_length (above s))));
+      out_len = c.requires.out_len ∙ ap (λ (ls : List BudgetLine). length ls * 10) (sym (lines s));
+    }
 
 pub returns : goal.returns
 returns c =
-    c.put_lines.ensures ∙ rows_are (content (start (goal.at.returns c).After-scheduled-arg-1).args.book.now) (lines (goal.at.returns c).After-scheduled-arg-1)
+    c.put_lines.ensures ∙ rows_are (content c.args.book.now) (lines (goal.at.returns c).After-scheduled-whole)

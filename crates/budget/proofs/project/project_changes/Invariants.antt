@@ -21,7 +21,7 @@ use Rattle.budget.proofs.project.project_changes.Given as goal
 abbrev pub invariant-loop-i : goal.invariant-loop-i
 invariant-loop-i l =
     Reading (λ (x : Unit {0}). budget_change l.activities) stay l.book (content l.book).log l.count l.i tt l.next
-    × Folded (added_to none Approved) (pos 0) (content l.book).log l.i (to_z w64 l.sum)
+    × Folded (added_to none Approved) (pos 0) (content l.book).log l.i l.sum
 
 abbrev pub decreases-loop-i : goal.decreases-loop-i
 decreases-loop-i l = l.count - l.i

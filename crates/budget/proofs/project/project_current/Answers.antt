@@ -9,7 +9,7 @@ use borrow.Author.Rules.{rules}
 use Rattle.budget.proofs.project.project_current.Goals as goal
 
 pub project_original-original-requires : goal.project_original-original-requires
-project_original-original-requires c = (plan_budgets c.requires.plan_of c.requires.ledger_of, refl)
+project_original-original-requires c = record { budgets = plan_budgets c.requires.plan_of c.requires.ledger_of; marks_value = refl }
 
 pub project_changes-changed-requires : goal.project_changes-changed-requires
 project_changes-changed-requires c = plan_log c.requires.plan_of c.requires.ledger_of
