@@ -16,6 +16,7 @@ use Rattle.format.specs.Book.{Book}
 use Rattle.format.specs.Format.{book}
 use Rattle.format.specs.Verdict.{begin, end, verdict, content, answer_of, Accepted, WellFormed}
 use Rattle.format.specs.InRange.{Limits, InRange}
+use Rattle.format.proofs.Sound.{codec_inverse}
 use Rattle.format.proofs.Verdict.{read_written, verdict_written, begins, held, ends, verdict_place}
 use Rattle.format.proofs.InRange.{fields_limits, fields_in_range}
 use Rattle.format.proofs.WellFormed.{fields_well_formed}
@@ -69,7 +70,7 @@ refused_unwritten s e p h b w k = never (sym h ∙ rw k at (verdict_written b w)
 -- Over 60,000 bytes are refused with 1, whatever they hold.
 pub long_refused : (s : List ℕ) → 60000 < length s → verdict s ≡ Refused 1 0
 unfolding verdict begin end
-long_refused s h = rw (verdict, lt-ltb 60000 (length s) h, book.inverse.stays s 1 0)
+long_refused s h = rw (verdict, lt-ltb 60000 (length s) h, (codec_inverse book).stays s 1 0)
 
 -- 5. A verdict that is no refusal accepts, and so does an answer that is none.
 pub verdict_accepts : (s : List ℕ) → Bytes s → (j : ℕ) → verdict s ≡ At j → Accepted s

@@ -15,6 +15,7 @@ use Rattle.format.specs.Inverse.{Held, never, at_of}
 use Rattle.format.specs.Book.{Book}
 use Rattle.format.specs.Format.{book}
 use Rattle.format.specs.Verdict.{begin, end, verdict, content, WellFormed}
+use Rattle.format.proofs.Sound.{codec_inverse, codec_within}
 
 module _ (b : Book) (w : WellFormed b) where
   pub read_written : book.read (book.write b) (begin (book.write b)) ≡ (b, At (length (book.write b)))
@@ -22,7 +23,7 @@ module _ (b : Book) (w : WellFormed b) where
   read_written =
       let s = book.write b in
       let z : 0 + length s ≡ length s = omega arith in
-      rw (begin, le-ltb 60000 (length s) w.short) (rw z at (book.inverse.forth b w.fields s [] 0 (sym (append-nil s))))
+      rw (begin, le-ltb 60000 (length s) w.short) (rw z at ((codec_inverse book).forth b w.fields s [] 0 (sym (append-nil s))))
 
   pub verdict_written : verdict (book.write b) ≡ At (length (book.write b))
   unfolding verdict end
@@ -49,12 +50,12 @@ module _ (s : List ℕ) (j : ℕ) (h : verdict s ≡ At j) where
       go :
           (b : Bool) → ltb 60000 (length s) ≡ b → (book.read s (cond b (Refused 1 0) (At 0))).1 ≡ At j →
           (length s ≤ 60000) × (begin s ≡ At 0)
-      go true e k = never (sym (book.inverse.stays s 1 0) ∙ k)
+      go true e k = never (sym ((codec_inverse book).stays s 1 0) ∙ k)
       go false e k = (ltb-false 60000 (length s) e, rw e)
 
   pub held : Bytes s → Held book.write book.ok s 0 j (content s)
   unfolding content
-  held b = rw (content, begins.1) (book.inverse.back s b 0 j (rw begins.1 at read_end.0))
+  held b = rw (content, begins.1) ((codec_inverse book).back s b 0 j (rw begins.1 at read_end.0))
 
   pub ends : Bytes s → j ≡ length s
   ends b = let l = simp length-append at (ap length (held b).text) in omega (arith, l, (held b).long, read_end.1)
@@ -78,4 +79,4 @@ end_place s (At i) h = go (ltb i (length s))
 
 pub verdict_place : (s : List ℕ) → place_of (verdict s) ≤ length s
 unfolding verdict
-verdict_place s = end_place s (book.read s (begin s)).1 (book.within.place s (begin s) (begin_place s))
+verdict_place s = end_place s (book.read s (begin s)).1 ((codec_within book).place s (begin s) (begin_place s))

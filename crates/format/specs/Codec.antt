@@ -5,6 +5,7 @@ use Rattle.std.proofs.Math.Option.{Option, none, some}
 use Rattle.std.proofs.lemmas.Bool.{eqb-false}
 use Rattle.format.specs.Bytes.{Bytes, optional_bytes, both_bytes, many_bytes, given_bytes}
 use Rattle.format.specs.Reader.{Reader, Writer, here, optional, write_optional, both, write_both, mapped, many, write_many, given, write_given, passing}
+use Rattle.format.specs.Sound.{Sound}
 use Rattle.format.specs.Inverse.{Inverse, Given, GivenIf, Each, here_inverse, optional_inverse, both_inverse, mapped_inverse, many_inverse, given_inverse, passing_inverse}
 use Rattle.format.specs.Within.{Within, here_within, optional_within, both_within, mapped_within, many_within, given_within, passing_within}
 use Rattle.format.specs.Field.{Kind, range, U, count}
@@ -14,9 +15,9 @@ pub record Codec (A : Type 0) : Type 1 where
   pub read : Reader A
   pub write : Writer A
   pub ok : A → Type 0
-  pub inverse : Inverse read write ok
+  pub inverse : Sound → Inverse read write ok
   pub bytes : (a : A) → Bytes (write a)
-  pub within : Within read
+  pub within : Sound → Within read
 
 -- ---- fields
 
@@ -27,9 +28,9 @@ field k =
       read = here k.read;
       write = k.write;
       ok = k.ok;
-      inverse = here_inverse k.inverse;
+      inverse = λ sound. here_inverse (k.inverse sound);
       bytes = k.bytes;
-      within = here_within k.within;
+      within = λ sound. here_within k.within;
     }
 
 -- O: U 0 for none, or 1 and then the value, which is refused at its mark's place
@@ -39,9 +40,9 @@ O k =
       read = optional k.read;
       write = write_optional k.write;
       ok = Given k.ok;
-      inverse = optional_inverse k.inverse;
+      inverse = λ sound. optional_inverse sound (k.inverse sound);
       bytes = optional_bytes k.write k.bytes;
-      within = optional_within k.within;
+      within = λ sound. optional_within k.within;
     }
 
 -- ---- one after another
@@ -54,9 +55,9 @@ unfoldable pub ◌then◌ : {A B : Type 0} → Codec A → (A → Codec B) → C
       read = both a.read (λ x. (b x).read);
       write = write_both a.write (λ x. (b x).write);
       ok = λ v. a.ok v.0 × (b v.0).ok v.1;
-      inverse = both_inverse a.inverse (λ x. (b x).inverse);
+      inverse = λ sound. both_inverse (a.inverse sound) (λ x. (b x).inverse sound);
       bytes = both_bytes a.write (λ x. (b x).write) a.bytes (λ x. (b x).bytes);
-      within = both_within a.within (λ x. (b x).within);
+      within = λ sound. both_within (a.within sound) (λ x. (b x).within sound);
     }
 
 -- one, then another that does not
@@ -78,9 +79,9 @@ iso c f g fg gf =
       read = mapped f c.read;
       write = λ b. c.write (g b);
       ok = λ b. c.ok (g b);
-      inverse = mapped_inverse f g fg gf c.inverse;
+      inverse = λ sound. mapped_inverse f g fg gf (c.inverse sound);
       bytes = λ b. c.bytes (g b);
-      within = mapped_within f c.within;
+      within = λ sound. mapped_within f (c.within sound);
     }
 
 -- what a test refuses with `code` at the place where it begins; it then reads as d
@@ -90,9 +91,9 @@ test d t code c =
       read = passing d t code c.read;
       write = c.write;
       ok = λ v. c.ok v × (t v ≡ true);
-      inverse = passing_inverse d t code c.inverse;
+      inverse = λ sound. passing_inverse d t code (c.inverse sound) sound;
       bytes = c.bytes;
-      within = passing_within d t code c.within;
+      within = λ sound. passing_within sound d t code (c.within sound);
     }
 
 -- a value that is there only where b is true
@@ -102,9 +103,9 @@ when b c =
       read = given b c.read;
       write = write_given c.write;
       ok = GivenIf c.ok b;
-      inverse = given_inverse c.inverse b;
+      inverse = λ sound. given_inverse (c.inverse sound) b;
       bytes = given_bytes c.write c.bytes;
-      within = given_within c.within b;
+      within = λ sound. given_within (c.within sound) b;
     }
 
 -- the mark: 0 for none, 1 before a value
@@ -137,9 +138,9 @@ times c f n x =
       read = many (λ y. (c y).read) f n x;
       write = write_many (λ y. (c y).write) f x;
       ok = λ l. (length l ≡ n) × Each (λ y. (c y).ok) f x l;
-      inverse = many_inverse (λ y. (c y).inverse) f n x;
+      inverse = λ sound. many_inverse (λ y. (c y).inverse sound) f n x;
       bytes = many_bytes (λ y. (c y).write) f (λ y. (c y).bytes) x;
-      within = many_within (λ y. (c y).within) f n x;
+      within = λ sound. many_within (λ y. (c y).within sound) f n x;
     }
 
 -- up to `most`, led by their count

@@ -3,6 +3,7 @@ use Rattle.std.specs.Prelude.{ℕ, suc, ℤ}
 use Rattle.format.specs.Number.{write_number}
 use Rattle.format.specs.Bytes.{Bytes, number_bytes}
 use Rattle.format.specs.Reader.{Reader, Writer, ranged}
+use Rattle.format.specs.Sound.{Sound}
 use Rattle.format.specs.Inverse.{Inverse, Range, ranged_inverse}
 use Rattle.format.specs.Within.{WithinAt, ranged_within}
 use Rattle.format.specs.Signed.{signed, write_signed, Sendable, signed_inverse, signed_bytes, signed_within}
@@ -12,7 +13,7 @@ pub record Kind (A : Type 0) : Type 1 where
   pub read : ℕ → Reader A
   pub write : Writer A
   pub ok : A → Type 0
-  pub inverse : (place : ℕ) → Inverse (read place) write ok
+  pub inverse : Sound → (place : ℕ) → Inverse (read place) write ok
   pub bytes : (a : A) → Bytes (write a)
   pub within : WithinAt read
 
@@ -23,7 +24,7 @@ range low bound code =
       read = ranged low bound code;
       write = write_number;
       ok = Range low bound;
-      inverse = ranged_inverse low bound code;
+      inverse = λ sound place. ranged_inverse low bound code place sound;
       bytes = number_bytes;
       within = ranged_within low bound code;
     }
@@ -55,7 +56,7 @@ S =
       read = λ place. signed;
       write = write_signed;
       ok = Sendable;
-      inverse = λ place. signed_inverse;
+      inverse = λ sound place. signed_inverse sound;
       bytes = signed_bytes;
       within = record { place = λ at s c l h. signed_within.place s c h };
     }

@@ -1,6 +1,6 @@
 -- A reader and a writer that are inverse to each other, and how such pairs are put together.
 use Prim.Native.Nat.{ℕ, zero, suc, ◌+◌, ◌^◌, ◌≤◌, ◌<◌}
-use Rattle.std.proofs.Common.{add_assoc, ap, sym, ◌∙◌}
+use Rattle.std.proofs.Common.{add_assoc, ap, sym, subst, ◌∙◌}
 use native.Mathlib.Omega.{arith}
 use Rattle.std.specs.Prelude.{◌≡◌, Bool, cond, eqb}
 use Rattle.std.proofs.Math.Path.{refl}
@@ -17,6 +17,7 @@ use Rattle.format.specs.declared.Pos.TheVariants.{At, Refused}
 use Rattle.format.specs.Number.{number_at, in_range, write_number}
 use Rattle.format.specs.Bytes.{Bytes}
 use Rattle.format.specs.NumberLaws.{drop_past, number_forth, number_back}
+use Rattle.format.specs.Sound.{Sound}
 use Rattle.format.specs.Reader.{Reader, Writer, place_of, found, number, ranged, here, optional, write_optional, both, write_both, mapped, many, write_many, given, write_given, tested, passing}
 
 -- from i on, s has the bytes of v, which is well-formed, up to j
@@ -40,12 +41,12 @@ at_of h = cc
 -- ---- numbers
 
 number_found :
-    (s : List ℕ) → Bytes s → (i j : ℕ) (m : Num) → number_at s i ≡ m → (found m).1 ≡ At j →
+    Sound → (s : List ℕ) → Bytes s → (i j : ℕ) (m : Num) → number_at s i ≡ m → (found m).1 ≡ At j →
     Held write_number (λ (v : ℕ). v < 2 ^ 64) s i j (found m).0
 unfolding found
-number_found s b i j (num.Refused x p) e h = never h
-number_found s b i j (num.Value v k) e h =
-    let g = number_back s b i v k e in
+number_found sound s b i j (num.Refused x p) e h = never h
+number_found sound s b i j (num.Value v k) e h =
+    let g = number_back sound s b i v k e in
     let z : k ≡ j = at_of h in
     record { fine = g.small; text = rw (← z) g.text; long = rw (← z) g.long }
 
@@ -53,13 +54,13 @@ number_read : (s : List ℕ) (i v j : ℕ) → number_at s i ≡ num.Value v j �
 unfolding number found
 number_read s i v j e = rw e
 
-pub number_inverse : Inverse number write_number (λ (v : ℕ). v < 2 ^ 64)
+pub number_inverse : Sound → Inverse number write_number (λ (v : ℕ). v < 2 ^ 64)
 unfolding number
-number_inverse =
+number_inverse sound =
     record {
       stays = λ s e p. refl;
-      forth = λ v h s rest i e. number_read s i v _ (number_forth v h s rest i e);
-      back = λ s b i j e. number_found s b i j (number_at s i) refl e;
+      forth = λ v h s rest i e. number_read s i v _ (number_forth sound v h s rest i e);
+      back = λ s b i j e. number_found sound s b i j (number_at s i) refl e;
     }
 
 -- a number of a range
@@ -76,11 +77,11 @@ module _ (low bound code place : ℕ) where
   ranged_read s i v j e l h = rw (e, le-ltb _ _ l, lt-ltb _ _ h)
 
   ranged_found :
-      (s : List ℕ) → Bytes s → (i j : ℕ) (m : Num) → number_at s i ≡ m → (found (in_range low bound code place m)).1 ≡ At j →
+      Sound → (s : List ℕ) → Bytes s → (i j : ℕ) (m : Num) → number_at s i ≡ m → (found (in_range low bound code place m)).1 ≡ At j →
       Held write_number (Range low bound) s i j (found (in_range low bound code place m)).0
   unfolding found in_range
-  ranged_found s b i j (num.Refused x p) e h = never h
-  ranged_found s b i j (num.Value v k) e h = go (ltb v low) (ltb v bound) refl refl
+  ranged_found sound s b i j (num.Refused x p) e h = never h
+  ranged_found sound s b i j (num.Value v k) e h = go (ltb v low) (ltb v bound) refl refl
     where
       go :
           (x y : Bool) → ltb v low ≡ x → ltb v bound ≡ y →
@@ -88,18 +89,18 @@ module _ (low bound code place : ℕ) where
       go true y p q = never (rw p at h)
       go false false p q = never (rw (p, q) at h)
       go false true p q =
-          let g = number_back s b i v k e in
+          let g = number_back sound s b i v k e in
           let z : k ≡ j = at_of (rw (p, q) at h) in
           let r : Range low bound v = record { least = ltb-false _ _ p; below = ltb-true _ _ q; fits = g.small } in
           rw (p, q) (record { fine = r; text = rw (← z) g.text; long = rw (← z) g.long })
 
-  pub ranged_inverse : Inverse (ranged low bound code place) write_number (Range low bound)
+  pub ranged_inverse : Sound → Inverse (ranged low bound code place) write_number (Range low bound)
   unfolding ranged
-  ranged_inverse =
+  ranged_inverse sound =
       record {
         stays = λ s e p. refl;
-        forth = λ v h s rest i e. ranged_read s i v _ (number_forth v h.fits s rest i e) h.least h.below;
-        back = λ s b i j e. ranged_found s b i j (number_at s i) refl e;
+        forth = λ v h s rest i e. ranged_read s i v _ (number_forth sound v h.fits s rest i e) h.least h.below;
+        back = λ s b i j e. ranged_found sound s b i j (number_at s i) refl e;
       }
 
 -- ---- a field at its own place, and behind a mark
@@ -120,7 +121,7 @@ abbrev pub Given : {A : Type 0} → (A → Type 0) → Option A → Type 0
 Given ok none = Unit {0}
 Given ok (some a) = ok a
 
-module _ {A : Type 0} {q : ℕ → Reader A} {w : Writer A} {ok : A → Type 0} (Q : (place : ℕ) → Inverse (q place) w ok) where
+module _ (sound : Sound) {A : Type 0} {q : ℕ → Reader A} {w : Writer A} {ok : A → Type 0} (Q : (place : ℕ) → Inverse (q place) w ok) where
   optional_back :
       (s : List ℕ) → Bytes s → (i k : ℕ) (x : Bool) (c : Pos) → eqb (ranged 0 2 4 i s (At i)).0 0 ≡ x → (ranged 0 2 4 i s (At i)).1 ≡ c →
       ◌≡◌ {A = Pos} (cond {A = Option A × Pos} x (none, c) (some (q i s c).0, (q i s c).1)).1 (At k) →
@@ -129,11 +130,11 @@ module _ {A : Type 0} {q : ℕ → Reader A} {w : Writer A} {ok : A → Type 0} 
   optional_back s b i k true (Refused x p) e m h = never h
   optional_back s b i k false (Refused x p) e m h = never (sym ((Q i).stays s x p) ∙ h)
   optional_back s b i k true (At j) e m h =
-      let g = (ranged_inverse 0 2 4 i).back s b i j m in
+      let g = (ranged_inverse 0 2 4 i sound).back s b i j m in
       let z = eqb-true (ranged 0 2 4 i s (At i)).0 0 e in
       record { fine = tt; text = rw (z, at_of h) at g.text; long = rw (z, at_of h) at g.long }
   optional_back s b i k false (At j) e m h =
-      let g = (ranged_inverse 0 2 4 i).back s b i j m in
+      let g = (ranged_inverse 0 2 4 i sound).back s b i j m in
       let y = eqb-false (ranged 0 2 4 i s (At i)).0 0 e in
       let z : (ranged 0 2 4 i s (At i)).0 ≡ 1 = omega (arith, g.fine.below) in
       let f = (Q i).back s b j k h in
@@ -149,10 +150,10 @@ module _ {A : Type 0} {q : ℕ → Reader A} {w : Writer A} {ok : A → Type 0} 
       (v : Option A) → Given ok v → (s rest : List ℕ) (i : ℕ) → drop i s ≡ write_optional w v ++ rest →
       optional q s (At i) ≡ (v, At (i + length (write_optional w v)))
   unfolding optional write_optional place_of
-  optional_forth none h s rest i e = rw (optional, (ranged_inverse 0 2 4 i).forth 0 (omega arith) s rest i e)
+  optional_forth none h s rest i e = rw (optional, (ranged_inverse 0 2 4 i sound).forth 0 (omega arith) s rest i e)
   optional_forth (some a) h s rest i e =
       let d : drop i s ≡ write_number 1 ++ (w a ++ rest) = e ∙ append_assoc (write_number 1) (w a) rest in
-      let f = (ranged_inverse 0 2 4 i).forth 1 (omega arith) s _ i d in
+      let f = (ranged_inverse 0 2 4 i sound).forth 1 (omega arith) s _ i d in
       let g = (Q i).forth a h s rest (i + length (write_number 1)) (drop_past s (write_number 1) _ i d) in
       rw (optional, f, g, length-append (write_number 1), add_assoc)
 
@@ -286,15 +287,18 @@ module _ {A : Type 0} {r : Reader A} {w : Writer A} {ok : A → Type 0} (d : A) 
   passing_back s y i j (At q) false m k e = never e
   passing_back s y i j (At q) true m k e = let h = R.back s y i j (m ∙ e) in record { fine = (h.fine, k); text = h.text; long = h.long }
 
-  passing_stays : (s : List ℕ) (e p : ℕ) → (passing d t code r s (Refused e p)).1 ≡ Refused e p
-  unfolding passing tested
-  passing_stays s e p = rw (passing, R.stays s e p)
-
-  pub passing_inverse : Inverse (passing d t code r) w (λ (v : A). ok v × (t v ≡ true))
+  passing_stays : Sound → (s : List ℕ) (e p : ℕ) → (passing d t code r s (Refused e p)).1 ≡ Refused e p
   unfolding passing place_of
-  passing_inverse =
+  passing_stays sound s e p =
+      let left = sound.refused d code p (t (r s (Refused e p)).0) (r s (Refused e p)).0 e p in
+      let kept : (tested d code p (t (r s (Refused e p)).0) ((r s (Refused e p)).0, Refused e p)).1 ≡ Refused e p = ap (λ (v : A × Pos). v.1) left in
+      subst (λ (c : Pos). (tested d code p (t (r s (Refused e p)).0) ((r s (Refused e p)).0, c)).1 ≡ Refused e p) (sym (R.stays s e p)) kept
+
+  pub passing_inverse : Sound → Inverse (passing d t code r) w (λ (v : A). ok v × (t v ≡ true))
+  unfolding passing place_of
+  passing_inverse sound =
       record {
-        stays = passing_stays;
+        stays = passing_stays sound;
         forth = λ v h. passing_forth v h.0 h.1;
         back = λ s y i j e. passing_back s y i j _ _ refl refl e;
       }

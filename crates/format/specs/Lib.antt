@@ -2,6 +2,7 @@
 pub mod Number
 pub mod Reader
 pub mod Bytes
+pub mod Sound
 pub mod NumberLaws
 pub mod Inverse
 pub mod Within

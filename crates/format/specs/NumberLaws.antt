@@ -12,6 +12,7 @@ use Rattle.format.specs.declared.Num.{Num}
 use Rattle.format.specs.declared.Num.TheVariants.{Value, Refused}
 use Rattle.format.specs.Bytes.{Bytes}
 use Rattle.format.specs.Number.{wrong_group, onto, groups, number_at, write_groups, write_number}
+use Rattle.format.specs.Sound.{Sound}
 
 -- ---- bytes from a position on
 
@@ -53,25 +54,10 @@ write_more left n h = rw (le-ltb _ _ h)
 pub false_true : {A : Type 0} → false ≡ true → A
 false_true e = let z : ◌≡◌ {A = ℕ} 0 1 = cc in absurd (omega arith)
 
-right_tenth : (b : ℕ) → wrong_group 1 b ≡ false → b ≤ 1
-unfolding wrong_group
-right_tenth zero w = omega arith
-right_tenth (suc b) w = let h = rw (ne_eqb (suc b) 0 (λ z. omega arith)) at w in omega (arith, ltb-false)
-
 right_some : (k b : ℕ) → wrong_group (suc k) b ≡ false → k < 9 → 0 < b
 unfolding wrong_group
 right_some k zero w h = let z : true ≡ false = rw (lt-ltb (suc k) 10 (omega arith)) at w in false_true (sym z)
 right_some k (suc b) w h = omega arith
-
-right_last : (k n : ℕ) → n < 2 * 128 ^ k → n < 128 → (k < 9 → 0 < n) → wrong_group (suc k) n ≡ false
-unfolding wrong_group
-right_last zero n u h l = rw (ne_eqb n 0 (λ z. omega (arith, l (omega arith))), le-ltb 1 n (omega arith))
-right_last (suc k) zero u h l = go (ltb (suc (suc k)) 10) refl
-  where
-    go : (b : Bool) → ltb (suc (suc k)) 10 ≡ b → ltb (suc (suc k)) 10 ≡ false
-    go true e = let m : suc (suc k) < 10 = ltb-true _ _ e in absurd (omega (arith, l (omega arith)))
-    go false e = e
-right_last (suc k) (suc n) u h l = rw (ne_eqb (suc n) 0 (λ z. omega arith), ne_eqb (suc (suc k)) 1 (λ z. omega arith))
 
 right_more : (k b : ℕ) → 128 ≤ b → wrong_group (suc (suc k)) b ≡ false
 unfolding wrong_group
@@ -89,11 +75,11 @@ Forth k n =
     (s rest : List ℕ) (place at : ℕ) → drop at s ≡ write_groups (suc k) n ++ rest →
     groups (suc k) s place at ≡ Value n (at + length (write_groups (suc k) n))
 
-forth_last : (k n : ℕ) → n < 128 → Writable k n → Forth k n
+forth_last : Sound → (k n : ℕ) → n < 128 → Writable k n → Forth k n
 unfolding Forth
-forth_last k n h u s rest place at e =
+forth_last sound k n h u s rest place at e =
     let d : drop at s ≡ n ∷ rest = rw (write_last k n h) at e in
-    let right = right_last k n u.small h u.some in
+    let right = sound.last k n u.small h u.some in
     rw (write_last k n h) (group_last s place at k n (head_in s at n rest d) (head_here s at n rest d) right h)
 
 forth_more : (k n : ℕ) → 128 ≤ n → Forth k (n / 128) → Forth (suc k) n
@@ -109,21 +95,21 @@ forth_more k n h ih s rest place at e =
     let g = group_more s place at (suc k) b i (head_here s at b (w ++ rest) d) (right_more k b (omega arith)) (omega arith) in
     rw (write_more (suc k) n h, g, r, v, m)
 
-groups_forth : (k n : ℕ) → Writable k n → Forth k n
-groups_forth zero n u = forth_last zero n (omega (arith, u.small)) u
-groups_forth (suc k) n u = go (dec_lt n 128) (groups_forth k (n / 128))
+groups_forth : Sound → (k n : ℕ) → Writable k n → Forth k n
+groups_forth sound zero n u = forth_last sound zero n (omega (arith, u.small)) u
+groups_forth sound (suc k) n u = go (dec_lt n 128) (groups_forth sound k (n / 128))
   where
     go : Dec (n < 128) → (Writable k (n / 128) → Forth k (n / 128)) → Forth (suc k) n
-    go (yes h) ih = forth_last (suc k) n h u
+    go (yes h) ih = forth_last sound (suc k) n h u
     go (no h) ih =
         let m : 128 ≤ n = omega arith in
         forth_more k n m (ih (record { small = omega (arith, pow-suc 128 k, u.small); some = λ q. omega arith }))
 
 pub number_forth :
-    (n : ℕ) → n < 2 ^ 64 → (s rest : List ℕ) (at : ℕ) → drop at s ≡ write_number n ++ rest →
+    Sound → (n : ℕ) → n < 2 ^ 64 → (s rest : List ℕ) (at : ℕ) → drop at s ≡ write_number n ++ rest →
     number_at s at ≡ Value n (at + length (write_number n))
 unfolding number_at write_number Forth
-number_forth n h s rest at e = groups_forth 9 n (record { small = h; some = λ q. absurd (omega arith) }) s rest at at e
+number_forth sound n h s rest at e = groups_forth sound 9 n (record { small = h; some = λ q. absurd (omega arith) }) s rest at at e
 
 -- ---- what is read was written
 
@@ -146,18 +132,18 @@ one_le_pow : (k : ℕ) → 1 ≤ 128 ^ k
 one_le_pow zero = omega arith
 one_le_pow (suc k) = omega (arith, pow-suc 128 k, one_le_pow k)
 
-right_small : (k b : ℕ) → wrong_group (suc k) b ≡ false → b < 128 → b < 2 * 128 ^ k
-right_small zero b w h = omega (arith, right_tenth b w)
-right_small (suc k) b w h = omega (arith, pow-suc 128 k, one_le_pow k)
+right_small : Sound → (k b : ℕ) → wrong_group (suc k) b ≡ false → b < 128 → b < 2 * 128 ^ k
+right_small sound zero b w h = omega (arith, sound.tenth b w)
+right_small sound (suc k) b w h = omega (arith, pow-suc 128 k, one_le_pow k)
 
-module _ (s : List ℕ) (at b : ℕ) (i : at < length s) (q : get_or s at 0 ≡ b) where
+module _ (sound : Sound) (s : List ℕ) (at b : ℕ) (i : at < length s) (q : get_or s at 0 ≡ b) where
   drop_byte : drop at s ≡ b ∷ drop (at + 1) s
   drop_byte = rw (add-one, ← q) (drop-cons s at 0 i)
 
   back_last : (k : ℕ) → wrong_group (suc k) b ≡ false → b < 128 → Written k s at b (at + 1)
   back_last k w h =
       record {
-        writable = record { small = right_small k b w h; some = right_some k b w };
+        writable = record { small = right_small sound k b w h; some = right_some k b w };
         text = rw (write_last k b h) drop_byte;
         long = rw (write_last k b h);
       }
@@ -190,7 +176,7 @@ groups_by :
 unfolding groups by_tests
 groups_by k s place at = refl
 
-module _ (s : List ℕ) (bytes : Bytes s) (place : ℕ) where
+module _ (sound : Sound) (s : List ℕ) (bytes : Bytes s) (place : ℕ) where
   Back : ℕ → Type 0
   Back k = (at v next : ℕ) → groups (suc k) s place at ≡ Value v next → Written k s at v next
 
@@ -199,7 +185,7 @@ module _ (s : List ℕ) (bytes : Bytes s) (place : ℕ) where
       groups (suc k) s place (at + 1) ≡ g → onto (get_or s at 0 - 128) 128 g ≡ Value v next → Back k → Written (suc k) s at v next
   unfolding onto Back
   back_onto k at v next (Value v' n) m i h q e ih =
-      rw (← value_of e, ← next_of e) (back_more s at (get_or s at 0) i refl k v' n m h (bytes at) (ih (at + 1) v' n q))
+      rw (← value_of e, ← next_of e) (back_more sound s at (get_or s at 0) i refl k v' n m h (bytes at) (ih (at + 1) v' n q))
   back_onto k at v next (Refused x p) m i h q e ih = clash e
 
   back_step :
@@ -209,9 +195,9 @@ module _ (s : List ℕ) (bytes : Bytes s) (place : ℕ) where
   back_step k at v next true w h m p q r e ih = clash e
   back_step k at v next false true h m p q r e ih = clash e
   back_step k at v next false false true m p q r e ih =
-      rw (← value_of e, ← next_of e) (back_last s at (get_or s at 0) (leb-false _ _ p) refl k q (ltb-true _ _ r))
+      rw (← value_of e, ← next_of e) (back_last sound s at (get_or s at 0) (leb-false _ _ p) refl k q (ltb-true _ _ r))
   back_step zero at v next false false false m p q r e ih =
-      absurd (omega (arith, right_tenth (get_or s at 0) q, ltb-false (get_or s at 0) 128 r))
+      absurd (omega (arith, sound.tenth (get_or s at 0) q, ltb-false (get_or s at 0) 128 r))
   back_step (suc k) at v next false false false m p q r e ih =
       back_onto k at v next (groups (suc k) s place (at + 1)) m (leb-false _ _ p) (ltb-false _ _ r) refl e (ih k refl)
 
@@ -229,10 +215,10 @@ pub record Found (s : List ℕ) (at v next : ℕ) : Type 0 where
   pub text : drop at s ≡ write_number v ++ drop next s
   pub long : next ≡ at + length (write_number v)
 
-pub number_back : (s : List ℕ) → Bytes s → (at v next : ℕ) → number_at s at ≡ Value v next → Found s at v next
+pub number_back : Sound → (s : List ℕ) → Bytes s → (at v next : ℕ) → number_at s at ≡ Value v next → Found s at v next
 unfolding number_at write_number Back
-number_back s b at v next e =
-    let r = groups_back s b at 9 (omega arith) at v next e in
+number_back sound s b at v next e =
+    let r = groups_back sound s b at 9 (omega arith) at v next e in
     record { small = r.writable.small; text = r.text; long = r.long }
 
 -- ---- no place is beyond the length

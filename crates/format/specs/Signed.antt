@@ -6,6 +6,7 @@ use Rattle.std.proofs.lemmas.Bool.{eqb-false}
 use Rattle.format.specs.Number.{write_number}
 use Rattle.format.specs.Reader.{Reader, Writer, mapped, number}
 use Rattle.format.specs.Bytes.{Bytes, number_bytes}
+use Rattle.format.specs.Sound.{Sound}
 use Rattle.format.specs.Inverse.{Inverse, mapped_inverse, number_inverse}
 use Rattle.format.specs.Within.{Within, number_within, mapped_within}
 
@@ -58,9 +59,9 @@ sent_received v = go (eqb (v % 2) 0) refl
     go true e = omega (arith, eqb-true (v % 2) 0 e)
     go false e = omega (arith, eqb-false (v % 2) 0 e)
 
-pub signed_inverse : Inverse signed write_signed Sendable
+pub signed_inverse : Sound → Inverse signed write_signed Sendable
 unfolding signed write_signed
-signed_inverse = mapped_inverse received sent (λ z h. received_sent z) (λ v h. sent_received v) number_inverse
+signed_inverse sound = mapped_inverse received sent (λ z h. received_sent z) (λ v h. sent_received v) (number_inverse sound)
 
 pub signed_bytes : (z : ℤ) → Bytes (write_signed z)
 unfolding write_signed

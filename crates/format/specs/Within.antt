@@ -1,5 +1,6 @@
 -- No reader goes on, or refuses, beyond the length.
 use Prim.Native.Nat.{ℕ, zero, suc, ◌≤◌}
+use Rattle.std.proofs.Common.{sym, subst}
 use Rattle.std.specs.Prelude.{◌≡◌, refl, Bool, true, false, cond, List, length, ltb, eqb}
 use Rattle.format.specs.declared.Num.{Num}
 use Rattle.format.specs.declared.Num.TheVariants as num
@@ -8,6 +9,7 @@ use Rattle.format.specs.declared.Pos.TheVariants.{At, Refused}
 use Rattle.format.specs.Number.{number_at, in_range}
 use Rattle.format.specs.NumberLaws.{number_place, number_at_within}
 use Rattle.format.specs.Reader.{Reader, place_of, found, number, ranged, here, optional, both, mapped, many, given, tested, passing}
+use Rattle.format.specs.Sound.{Sound}
 
 -- from a place within the length, to one within the length
 pub record Within {A : Type 0} (r : Reader A) : Type 0 where
@@ -95,14 +97,14 @@ given_within R true = record { place = λ s c h. R.place s c h }
 given_within R false = record { place = λ s c h. h }
 
 tested_place :
-    {A : Type 0} (d : A) (code at n : ℕ) (t : Bool) (a : A) (c : Pos) → at ≤ n → place_of c ≤ n →
+    Sound → {A : Type 0} (d : A) (code at n : ℕ) (t : Bool) (a : A) (c : Pos) → at ≤ n → place_of c ≤ n →
     place_of (tested d code at t (a, c)).1 ≤ n
 unfolding tested place_of
-tested_place d code at n true a (At i) l h = h
-tested_place d code at n false a (At i) l h = l
-tested_place d code at n t a (Refused e p) l h = h
+tested_place sound d code at n true a (At i) l h = h
+tested_place sound d code at n false a (At i) l h = l
+tested_place sound {A} d code at n t a (Refused e p) l h = subst (λ (v : A × Pos). place_of v.1 ≤ n) (sym (sound.refused d code at t a e p)) h
 
-pub passing_within : {A : Type 0} (d : A) (t : A → Bool) (code : ℕ) {r : Reader A} → Within r → Within (passing d t code r)
+pub passing_within : Sound → {A : Type 0} (d : A) (t : A → Bool) (code : ℕ) {r : Reader A} → Within r → Within (passing d t code r)
 unfolding passing
-passing_within d t code {r} R =
-    record { place = λ s c h. tested_place d code (place_of c) (length s) (t (r s c).0) (r s c).0 (r s c).1 h (R.place s c h) }
+passing_within sound d t code {r} R =
+    record { place = λ s c h. tested_place sound d code (place_of c) (length s) (t (r s c).0) (r s c).0 (r s c).1 h (R.place s c h) }
