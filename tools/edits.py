@@ -1,7 +1,9 @@
 #!/usr/bin/env python3
 """Brings the must-fail edits to the spelling of the files that they change.
 
-usage: python3 tools/edits.py OLD      at the top of the repository; OLD is a checkout of the repository in the older spelling
+usage: python3 tools/edits.py OLD [MAP]      at the top of the repository
+
+OLD is a checkout of the repository in the older spelling, MAP the table of names that tools/respell.py wrote.
 
 The words of an edit are respelled as the lines of its file were. Where its old text then stands in the file just once, the edit is
 written; each other one is printed, and left for a hand.
@@ -76,7 +78,6 @@ def main():
                     out.append(line)
                 elif line.startswith(("old: ", "new: ")):
                     text = line[5:]
-                    ways = [way(text, words) for way in (lambda t, w: t, respelt)]
                     if line.startswith("old: "):
                         word = None
                         for index, way in enumerate([text, respelt(text, words), *[s for s in spelt(respelt(text, words))]]):
