@@ -1,4 +1,5 @@
 -- Holidays taken off a table of days: what the table shows after the holidays of each year, and the year of a date.
+use Rattle.std.specs.Prelude.{Option, Some, None}
 use Prim.Native.Nat.{ℕ, zero, suc, ◌+◌, ◌-◌, ◌*◌, ◌/◌, ◌≤◌, ◌<◌}
 use mathlib.Core.Path.{◌≡◌, refl, sym, ap, ◌∙◌}
 use mathlib.Core.Logic.{⊎_elim}
@@ -18,9 +19,6 @@ use Rattle.gregorian.proofs.Below.{at_below}
 use Rattle.gregorian.proofs.Leap.{closed, is_closed}
 use Rattle.gregorian.proofs.Counts.{is_true}
 use Rattle.gregorian.proofs.Laws.{year_from, year_before}
-use Rattle.dates.specs.declared.Day.{Day}
-use Rattle.dates.specs.declared.Day.TheVariants.{At, Nothing}
-use Rattle.dates.specs.declared.Date.TheVariants.{Of}
 use Rattle.dates.specs.Date.{ymd_of}
 use Rattle.dates.proofs.Counts.{epoch_is, is_day_lem}
 use Rattle.holidays.specs.Holiday.{same, is_holiday}
@@ -76,34 +74,34 @@ off false t b = refl
 
 module _ (base : ℕ) where
   freed_is :
-      (date : ℕ) → base ≤ date → (xs : List Day) (days : List ℕ) → date - base < length days → (b : Bool) → entry base days date ≡ one b →
+      (date : ℕ) → base ≤ date → (xs : List (Option ℤ)) (days : List ℕ) → date - base < length days → (b : Bool) → entry base days date ≡ one b →
       entry base (foldl (freed base) days xs) date ≡ one (not (any (falls (pos date)) xs) && b)
   unfolding freed any same
   freed_is date first [] days h b e = e
-  freed_is date first (Nothing ∷ xs) days h b e = freed_is date first xs days h b e
-  freed_is date first (At (negsuc n) ∷ xs) days h b e = freed_is date first xs days h b e
-  freed_is date first (At (pos d) ∷ xs) days h b e =
+  freed_is date first (None ∷ xs) days h b e = freed_is date first xs days h b e
+  freed_is date first (Some (negsuc n) ∷ xs) days h b e = freed_is date first xs days h b e
+  freed_is date first (Some (pos d) ∷ xs) days h b e =
       freed_is date first xs (marked base d false days) (omega (arith, length_marked base d false days)) (cond (eqb date d) false b) (marked_is base date first days h d false b e)
       ∙ ap one (off (eqb date d) (any (falls (pos date)) xs) b ∙ sym (ap (λ (s : Bool). not (s || any (falls (pos date)) xs) && b) (same_dates date d)))
 
 -- a day from 1970 on, and one before
-pub freed_from : (base : ℕ) (days : List ℕ) (z : ℤ) → le_z (pos 0) z ≡ true → freed base days (At z) ≡ marked base (nat_abs z) false days
+pub freed_from : (base : ℕ) (days : List ℕ) (z : ℤ) → le_z (pos 0) z ≡ true → freed base days (Some z) ≡ marked base (nat_abs z) false days
 unfolding freed
 freed_from base days (pos n) h = refl
 freed_from base days (negsuc n) h = absurd (false≢true h)
 
-pub freed_before : (base : ℕ) (days : List ℕ) (z : ℤ) → le_z (pos 0) z ≡ false → freed base days (At z) ≡ days
+pub freed_before : (base : ℕ) (days : List ℕ) (z : ℤ) → le_z (pos 0) z ≡ false → freed base days (Some z) ≡ days
 unfolding freed
 freed_before base days (pos n) h = absurd (false≢true (sym h ∙ le-leb 0 n (omega arith)))
 freed_before base days (negsuc n) h = refl
 
 -- one by one
 pub free_next :
-    (base : ℕ) (xs : List Day) (k : ℕ) → k < length xs → (days : List ℕ) {after : List ℕ} → after ≡ freed base days (get_or xs k Nothing) →
+    (base : ℕ) (xs : List (Option ℤ)) (k : ℕ) → k < length xs → (days : List ℕ) {after : List ℕ} → after ≡ freed base days (get_or xs k None) →
     foldl (freed base) after (drop (k + 1) xs) ≡ foldl (freed base) days (drop k xs)
 free_next base xs k h days m =
     let e : suc k ≡ k + 1 = omega arith in
-    rw (drop-cons xs k Nothing h, e, m)
+    rw (drop-cons xs k None h, e, m)
 
 -- ---- the days of years
 
@@ -123,11 +121,11 @@ module _ {A : Type 0} (p : A → Bool) (f : ℕ → List A) where
   some_year g a (suc n) e = ⊎_elim (g a) (some_year g (suc a) n) (any_either p (f a) (flat_map f (span (suc a) n)) e)
 
 -- the holidays of the n-th year after 1970
-abbrev pub holidays_after : ℕ → List Day
+abbrev pub holidays_after : ℕ → List (Option ℤ)
 holidays_after n = holidays_in (pos (n + 1970))
 
 -- of the years after 1970 from the n-th on to another
-abbrev pub holidays_up_to : ℕ → ℕ → List Day
+abbrev pub holidays_up_to : ℕ → ℕ → List (Option ℤ)
 holidays_up_to last n = flat_map holidays_after (span n (last + 1 - n))
 
 pub free_next_year :

@@ -1,9 +1,7 @@
 -- Tables over a stretch of dates: which dates work, and running counts of them.
-use Rattle.std.specs.Prelude.{ℕ, ◌+◌, ◌*◌, ◌-◌, ◌≤◌, ◌<◌, ◌≡◌, Bool, true, false, not, cond, ◌&&◌, List, [], ◌∷◌, eqb, leb, ltb, pos, negsuc, length, get_or, set}
+use Rattle.std.specs.Prelude.{ℕ, ◌+◌, ◌*◌, ◌-◌, ◌≤◌, ◌<◌, ◌≡◌, Bool, true, false, not, cond, ◌&&◌, List, [], ◌∷◌, eqb, leb, ltb, pos, negsuc, length, get_or, set, Option, Some, None, ℤ}
 use Rattle.format.specs.declared.Region.{Region}
 use Rattle.format.specs.Book.{Calendar}
-use Rattle.dates.specs.declared.Day.{Day}
-use Rattle.dates.specs.declared.Day.TheVariants.{At, Nothing}
 use Rattle.dates.specs.Date.{weekday_of}
 use Rattle.lists.specs.Lists.{span, keep}
 use Rattle.model.specs.Calendar.{is_region_holiday, works_on, is_working}
@@ -35,10 +33,10 @@ unfoldable pub marked : ℕ → ℕ → Bool → List ℕ → List ℕ
 marked base date working days = cond (leb base date) (set days (date - base) (one working)) days
 
 -- the table with one day set as not worked
-unfoldable pub freed : ℕ → List ℕ → Day → List ℕ
-freed base days Nothing = days
-freed base days (At (negsuc n)) = days
-freed base days (At (pos date)) = marked base date false days
+unfoldable pub freed : ℕ → List ℕ → Option ℤ → List ℕ
+freed base days None = days
+freed base days (Some (negsuc n)) = days
+freed base days (Some (pos date)) = marked base date false days
 
 -- the table with the date of each element set, in their order
 unfoldable pub overlaid : {A : Type 0} → ℕ → (A → ℕ) → (A → Bool) → List A → List ℕ → List ℕ

@@ -1,7 +1,6 @@
 // What the week and the region say of dates.
 ghost use Rattle.std.specs.Prelude.{◌≡◌, Bool, true, not, ◌&&◌, ℕ, ◌+◌, ◌-◌, ◌≤◌, ℤ, pos, length};
 ghost use mathlib.Core.List.{foldl};
-ghost use Rattle.dates.specs.declared.Day.TheVariants.{At};
 ghost use Rattle.dates.specs.Date.{is_day, weekday_of};
 ghost use Rattle.holidays.specs.Holiday.{is_holiday};
 ghost use Rattle.holidays.specs.Year.{holidays_in};
@@ -9,7 +8,6 @@ ghost use Rattle.model.specs.Calendar.{works_on};
 ghost use Rattle.calendar.specs.Tables.{usual, Shows, freed};
 
 use crate::marks::{bit, mark};
-use dates::Day;
 use format::Region;
 
 // The weekday's bit of the week: bit 0 is Monday, and 1 January 1970 was a Thursday.
@@ -37,17 +35,17 @@ fn fill_week(week: u64, from: u64, to: u64, days: &mut [u8])
 }
 
 // Sets a day as not worked, if the table has it.
-fn free(day: Day, base: u64, days: &mut [u8])
-    requires { (z : ℤ) → day ≡ At z → is_day z ≡ true }
+fn free(day: Option<i32>, base: u64, days: &mut [u8])
+    requires { (z : ℤ) → day ≡ Some z → is_day z ≡ true }
     ensures { days.new ≡ freed base days.old day }
 {
     match day {
-        Day::At(z) => {
+        Some(z) => {
             if 0 <= z {
                 mark(days, base, z as u64, false);
             }
         }
-        Day::Nothing => {}
+        None => {}
     }
 }
 

@@ -1,5 +1,6 @@
 -- The algorithm gives the Easter of the definition at each year: a test that the checker computes, over 20,000 years.
 -- Assumes nothing.
+use Rattle.std.specs.Prelude.{Some, None}
 use Prim.Native.Nat.{ℕ, ◌+◌, ◌-◌, ◌*◌, ◌/◌, ◌%◌, ◌<◌}
 use mathlib.Core.Path.{◌≡◌, refl, ◌∙◌}
 use mathlib.Core.Bool.{Bool, true, false, ◌&&◌}
@@ -14,7 +15,6 @@ use Rattle.gregorian.proofs.Below.{at_below}
 use Rattle.gregorian.proofs.Leap.{closed, is_closed}
 use Rattle.gregorian.proofs.Laws.{and_both}
 use Rattle.gregorian.proofs.Counts.{Within, within, is_true}
-use Rattle.dates.specs.declared.Day.TheVariants.{At, Nothing}
 use Rattle.dates.specs.Date.{is_year, year_count, is_day, from_ymd}
 use Rattle.dates.proofs.Counts.{year_within}
 use Rattle.dates.proofs.Laws.{day_of_date}
@@ -75,13 +75,13 @@ meeus_is z e =
     rw (e, shifted z e, a.0, a.1)
 
 -- Easter Sunday is a day in range
-pub easter_day : (y e : ℤ) → easter_of y ≡ At e → is_day e ≡ true
+pub easter_day : (y e : ℤ) → easter_of y ≡ Some e → is_day e ≡ true
 unfolding easter_of
 easter_day y e q = go (is_year y) refl
   where
     go : (b : Bool) → is_year y ≡ b → is_day e ≡ true
     go true h = day_of_date y _ _ e (meeus_is y h ∙ q)
-    go false h = let c : Nothing ≡ At e = rw h at q in let z : ◌≡◌ {A = ℕ} 0 1 = cc in absurd (omega arith)
+    go false h = let c : None ≡ Some e = rw h at q in let z : ◌≡◌ {A = ℕ} 0 1 = cc in absurd (omega arith)
 
 -- the year in range, as the code counts it
 pub easter_year : (z : ℤ) → is_year z ≡ true → Within 5700000 5690001 5709999 z

@@ -1,5 +1,6 @@
 -- The days that the holidays by Easter fall on are of Easter's own year.
 -- Assumes nothing.
+use Rattle.std.specs.Prelude.{Some, None}
 use Prim.Native.Nat.{ℕ, suc, ◌+◌, ◌-◌, ◌/◌, ◌%◌, ◌≤◌, ◌<◌}
 use mathlib.Core.Path.{◌≡◌, refl, ap, ◌∙◌}
 use mathlib.Core.Logic.{◌⊎◌, inl, inr}
@@ -13,7 +14,6 @@ use Rattle.gregorian.specs.Count.{counted, signed}
 use Rattle.gregorian.specs.Calendar.{month_length, days_to_month, days_to_year, day_number, civil}
 use Rattle.gregorian.proofs.Leap.{year_after}
 use Rattle.gregorian.proofs.Laws.{number_civil, year_from, year_before}
-use Rattle.dates.specs.declared.Day.TheVariants.{At, Nothing}
 use Rattle.dates.specs.Date.{is_year, year_count, signed_year, epoch, day_count, is_day}
 use Rattle.dates.proofs.Counts.{year_within, day_in_lem, number_within}
 use Rattle.dates.proofs.Laws.{from_ymd_at}
@@ -38,12 +38,12 @@ pub record InYear (y z : ℤ) : Type 0 where
   pub in_range_lem : is_day z ≡ true
   pub year : signed_year (civil (day_count z)).year ≡ y
 
-pub near_easter : (y e k : ℤ) → easter_of y ≡ At e → negsuc 47 ≤ℤ k → k ≤ℤ pos 60 → InYear y (e +ℤ k)
+pub near_easter : (y e k : ℤ) → easter_of y ≡ Some e → negsuc 47 ≤ℤ k → k ≤ℤ pos 60 → InYear y (e +ℤ k)
 unfolding easter_of counted signed
 near_easter y e k q lo hi = go (is_year y) refl
   where
     go : (b : Bool) → is_year y ≡ b → InYear y (e +ℤ k)
-    go false h = let c : Nothing ≡ At e = rw h at q in let z : ◌≡◌ {A = ℕ} 0 1 = cc in absurd (omega arith)
+    go false h = let c : None ≡ Some e = rw h at q in let z : ◌≡◌ {A = ℕ} 0 1 = cc in absurd (omega arith)
     go true h =
         let m = meeus (counted 5700000 y) in
         let f = from_ymd_at y (m / 31) (m % 31 + 1) e (meeus_is y h ∙ q) in

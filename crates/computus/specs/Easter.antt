@@ -2,11 +2,9 @@
 -- Its formulas take the year counted from year -5,700,000. After 5,700,000 years the computus repeats: they are a multiple of 19
 -- and of 400, and the solar and the lunar correction over them, 42,750 and 18,240, are multiples of 30. So a year before year 0
 -- needs no other constants. Assumes nothing.
-use Rattle.std.specs.Prelude.{ℕ, ◌+◌, ◌-◌, ◌*◌, ◌/◌, ◌%◌, cond, ◌&&◌, ◌||◌, eqb, ltb, ℤ}
+use Rattle.std.specs.Prelude.{ℕ, ◌+◌, ◌-◌, ◌*◌, ◌/◌, ◌%◌, cond, ◌&&◌, ◌||◌, eqb, ltb, ℤ, Option, Some, None}
 use Rattle.gregorian.specs.Count.{counted}
 use Rattle.gregorian.specs.Calendar.{day_number, weekday_number}
-use Rattle.dates.specs.declared.Day.{Day}
-use Rattle.dates.specs.declared.Day.TheVariants.{At, Nothing}
 use Rattle.dates.specs.Date.{is_year, year_count, signed_day}
 
 -- The year's place in the moon's cycle of 19 years, from 1.
@@ -46,5 +44,5 @@ full_moon y = from_equinox (44 - epact y)
 unfoldable pub sunday_after : ℕ → ℕ
 sunday_after n = n + (7 - (weekday_number n + 1) % 7)
 
-unfoldable pub easter_of : ℤ → Day
-easter_of y = cond (is_year y) (At (signed_day (sunday_after (day_number (year_count y) 3 (full_moon (counted 5700000 y)))))) Nothing
+unfoldable pub easter_of : ℤ → Option ℤ
+easter_of y = cond (is_year y) (Some (signed_day (sunday_after (day_number (year_count y) 3 (full_moon (counted 5700000 y)))))) None

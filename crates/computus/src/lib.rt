@@ -6,11 +6,11 @@ ghost use Rattle.computus.specs.Easter.{easter_of};
 
 // Easter Sunday, by the anonymous Gregorian algorithm (Meeus). The year is counted from year -5,700,000: after so many years
 // Easter's dates repeat, and no quotient is of a negative number.
-pub fn easter(year: i32) -> dates::Day
+pub fn easter(year: i32) -> Option<i32>
     ensures { result ≡ easter_of year }
 {
     if !dates::is_year(year) {
-        return dates::Day::Nothing;
+        return None;
     }
     let y = gregorian::count::counted_from(5700000, year);
     let a = y % 19;

@@ -1,5 +1,6 @@
 -- What the definitions of dates say: `ymd` and `from_ymd` undo each other, the day after, the weekday after, the shift of the years.
 -- Assumes nothing.
+use Rattle.std.specs.Prelude.{Some}
 use Prim.Native.Nat.{ℕ, suc, ◌+◌, ◌-◌, ◌%◌, ◌<◌}
 use mathlib.Core.Path.{◌≡◌, refl, sym, ap, ◌∙◌}
 use mathlib.Core.Bool.{Bool, true, false, cond, ◌&&◌}
@@ -16,13 +17,11 @@ use Rattle.gregorian.specs.Calendar.{is_leap, leap_day, month_lengths, month_len
 use Rattle.gregorian.proofs.Below.{at_each}
 use Rattle.gregorian.proofs.Counts.{counted_signed, next_count}
 use Rattle.gregorian.proofs.Laws.{and_both, valid, is_date_lem, number_civil, civil_number}
-use Rattle.dates.specs.declared.Day.TheVariants.{At}
-use Rattle.dates.specs.declared.Date.TheVariants.{Of}
+use Rattle.dates.specs.declared.YearMonthDay.{YearMonthDay}
 use Rattle.dates.specs.declared.week.Weekday.{Weekday}
 use Rattle.dates.specs.declared.week.Weekday.TheVariants.{Thursday}
-use Rattle.dates.specs.declared.WeekdayOf.TheVariants.{On}
 use Rattle.dates.specs.Week.{named, index_of}
-use Rattle.dates.specs.Date.{is_year, year_count, signed_year, epoch, day_count, signed_day, is_day, from_ymd, date_of, ymd_of, weekday_of, date_after}
+use Rattle.dates.specs.Date.{dated, is_year, year_count, signed_year, epoch, day_count, signed_day, is_day, from_ymd, date_of, ymd_of, weekday_of, date_after}
 use Rattle.dates.proofs.Counts.{epoch_is, is_day_lem, year_within, year_in, day_within, day_in_lem, number_within, civil_within}
 
 -- an answer that is not the one for none
@@ -41,7 +40,7 @@ pub record FromYmd (y : ℤ) (m d : ℕ) (z : ℤ) : Type 0 where
   pub day : signed_day (day_number (year_count y) m d) ≡ z
 
 -- what an answer of `from_ymd` says
-pub from_ymd_at : (y : ℤ) (m d : ℕ) (z : ℤ) → from_ymd y m d ≡ At z → FromYmd y m d z
+pub from_ymd_at : (y : ℤ) (m d : ℕ) (z : ℤ) → from_ymd y m d ≡ Some z → FromYmd y m d z
 unfolding from_ymd
 from_ymd_at y m d z e =
     let p = picked (is_year y && is_date (year_count y) m d) (λ q. no_clash (cc)) e in
@@ -49,7 +48,7 @@ from_ymd_at y m d z e =
     record { year = t.0; date = t.1; day = cc }
 
 -- the day of a date is in range
-pub day_of_date : (y : ℤ) (m d : ℕ) (z : ℤ) → from_ymd y m d ≡ At z → is_day z ≡ true
+pub day_of_date : (y : ℤ) (m d : ℕ) (z : ℤ) → from_ymd y m d ≡ Some z → is_day z ≡ true
 day_of_date y m d z e =
     let f = from_ymd_at y m d z e in
     let w = year_within y f.year in
@@ -57,7 +56,7 @@ day_of_date y m d z e =
     rw (← f.day) (day_in_lem _ b.0 b.1)
 
 -- the date of a date's day is the date
-pub date_of_day : (y : ℤ) (m d : ℕ) (z : ℤ) → from_ymd y m d ≡ At z → ymd_of z ≡ Of y m d
+pub date_of_day : (y : ℤ) (m d : ℕ) (z : ℤ) → from_ymd y m d ≡ Some z → ymd_of z ≡ Some (dated y m d)
 unfolding ymd_of
 date_of_day y m d z e =
     let f = from_ymd_at y m d z e in
@@ -72,14 +71,20 @@ pub record YmdOf (z : ℤ) (y : ℤ) (m d : ℕ) : Type 0 where
   pub day : (civil (day_count z)).day ≡ d
 
 -- what an answer of `ymd_of` says
-pub ymd_of_lem : (z y : ℤ) (m d : ℕ) → ymd_of z ≡ Of y m d → YmdOf z y m d
+pub ymd_of_lem : (z y : ℤ) (m d : ℕ) → ymd_of z ≡ Some (dated y m d) → YmdOf z y m d
 unfolding ymd_of
 ymd_of_lem z y m d e =
     let p = picked (is_day z) (λ q. no_clash (cc)) e in
-    record { in_range_lem = p.0; year = cc; month = cc; day = cc }
+    let q : date_of (civil (day_count z)) ≡ dated y m d = cc in
+    record {
+      in_range_lem = p.0;
+      year = ap (λ (x : YearMonthDay). x.year) q;
+      month = ap (λ (x : YearMonthDay). x.month) q;
+      day = ap (λ (x : YearMonthDay). x.day) q;
+    }
 
 -- the day of a day's date is the day
-pub day_of_ymd : (z y : ℤ) (m d : ℕ) → ymd_of z ≡ Of y m d → from_ymd y m d ≡ At z
+pub day_of_ymd : (z y : ℤ) (m d : ℕ) → ymd_of z ≡ Some (dated y m d) → from_ymd y m d ≡ Some z
 unfolding from_ymd
 day_of_ymd z y m d e =
     let o = ymd_of_lem z y m d e in
@@ -137,13 +142,13 @@ next_year n =
     let s = pos n -ℤ pos 10000 in
     omega (linear, dif (pos (suc n)) (pos 10000), dif (pos n) (pos 10000), sum s (pos 1))
 
-date_step : (x : Civil) → date_of (day_after x) ≡ date_after (date_of x)
+date_step : (x : Civil) → Some (date_of (day_after x)) ≡ date_after (Some (date_of x))
 unfolding day_after date_after
 date_step x = rw (same_months x.year x.month) (go (ltb x.day (month_length x.year x.month)) (ltb x.month 12))
   where
     go : (a b : Bool) →
-        date_of (cond a (ymd x.year x.month (suc x.day)) (cond b (ymd x.year (suc x.month) 1) (ymd (suc x.year) 1 1)))
-        ≡ cond a (Of (signed_year x.year) x.month (suc x.day)) (cond b (Of (signed_year x.year) (suc x.month) 1) (Of (signed_year x.year +ℤ pos 1) 1 1))
+        Some (date_of (cond a (ymd x.year x.month (suc x.day)) (cond b (ymd x.year (suc x.month) 1) (ymd (suc x.year) 1 1))))
+        ≡ Some (cond a (dated (signed_year x.year) x.month (suc x.day)) (cond b (dated (signed_year x.year) (suc x.month) 1) (dated (signed_year x.year +ℤ pos 1) 1 1)))
     go true b = refl
     go false true = refl
     go false false = rw (next_year x.year)
@@ -159,14 +164,14 @@ next_date z e f = rw (e, f, next_day z e) (date_step (civil (day_count z)))
 -- ---- the week
 
 -- 1 January 1970
-pub thursday : weekday_of (pos 0) ≡ On Thursday
+pub thursday : weekday_of (pos 0) ≡ Some Thursday
 unfolding weekday_of between counted weekday_number
 thursday = rw (is_day_lem (pos 0), epoch_is)
 
 index_named : (k : ℕ) → k < 7 → index_of (named k) ≡ k
 index_named = at_each (λ (k : ℕ). index_of (named k) ≡ k) 7 (omega arith)
 
-weekday_on : (z : ℤ) (a : Weekday) → weekday_of z ≡ On a → (is_day z ≡ true) × (index_of a ≡ weekday_number (day_count z))
+weekday_on : (z : ℤ) (a : Weekday) → weekday_of z ≡ Some a → (is_day z ≡ true) × (index_of a ≡ weekday_number (day_count z))
 unfolding weekday_of weekday_number
 weekday_on z a e =
     let p = picked (is_day z) (λ q. no_clash (cc)) e in
@@ -177,7 +182,7 @@ weekday_on z a e =
     small n = omega arith
 
 -- the weekday of the next day is the next weekday
-pub next_weekday : (z : ℤ) (a b : Weekday) → weekday_of z ≡ On a → weekday_of (z +ℤ pos 1) ≡ On b → index_of b ≡ (index_of a + 1) % 7
+pub next_weekday : (z : ℤ) (a b : Weekday) → weekday_of z ≡ Some a → weekday_of (z +ℤ pos 1) ≡ Some b → index_of b ≡ (index_of a + 1) % 7
 unfolding weekday_number
 next_weekday z a b e f =
     let p = weekday_on z a e in

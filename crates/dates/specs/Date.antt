@@ -1,15 +1,11 @@
 -- Document 01, Dates: dates with a signed year, and days by their number from 1 January 1970. The calendar is that of `gregorian`.
 -- Assumes nothing.
-use Rattle.std.specs.Prelude.{ℕ, suc, Bool, cond, ◌&&◌, ltb, ℤ, pos, negsuc, nat_abs, ◌+ℤ◌}
+use Rattle.std.specs.Prelude.{ℕ, suc, Bool, cond, ◌&&◌, ltb, ℤ, pos, negsuc, nat_abs, ◌+ℤ◌, Option, Some, None}
 use Rattle.gregorian.specs.declared.Civil.{Civil}
 use Rattle.gregorian.specs.Count.{between, counted, signed}
 use Rattle.gregorian.specs.Calendar.{month_length, is_date, day_number, civil, weekday_number}
-use Rattle.dates.specs.declared.Day.{Day}
-use Rattle.dates.specs.declared.Day.TheVariants.{At, Nothing as no_day}
-use Rattle.dates.specs.declared.Date.{Date}
-use Rattle.dates.specs.declared.Date.TheVariants.{Of, Nothing as no-date}
-use Rattle.dates.specs.declared.WeekdayOf.{WeekdayOf}
-use Rattle.dates.specs.declared.WeekdayOf.TheVariants.{On, Nothing as no_weekday}
+use Rattle.dates.specs.declared.YearMonthDay.{YearMonthDay}
+use Rattle.dates.specs.declared.week.Weekday.{Weekday}
 use Rattle.dates.specs.Week.{named}
 
 -- ---- years
@@ -44,24 +40,27 @@ is_day z = between (signed_day (day_number (year_count (negsuc 9998)) 1 1)) (sig
 
 -- ---- what the functions answer
 
-unfoldable pub from_ymd : ℤ → ℕ → ℕ → Day
-from_ymd y m d = cond (is_year y && is_date (year_count y) m d) (At (signed_day (day_number (year_count y) m d))) no_day
+unfoldable pub from_ymd : ℤ → ℕ → ℕ → Option ℤ
+from_ymd y m d = cond (is_year y && is_date (year_count y) m d) (Some (signed_day (day_number (year_count y) m d))) None
 
-unfoldable pub from_days : ℤ → Day
-from_days z = cond (is_day z) (At z) no_day
+unfoldable pub from_days : ℤ → Option ℤ
+from_days z = cond (is_day z) (Some z) None
+
+abbrev pub dated : ℤ → ℕ → ℕ → YearMonthDay
+dated y m d = record { year = y; month = m; day = d }
 
 -- A date of the calendar, with its year signed.
-abbrev pub date_of : Civil → Date
-date_of x = Of (signed_year x.year) x.month x.day
+abbrev pub date_of : Civil → YearMonthDay
+date_of x = dated (signed_year x.year) x.month x.day
 
-unfoldable pub ymd_of : ℤ → Date
-ymd_of z = cond (is_day z) (date_of (civil (day_count z))) no-date
+unfoldable pub ymd_of : ℤ → Option YearMonthDay
+ymd_of z = cond (is_day z) (Some (date_of (civil (day_count z)))) None
 
-unfoldable pub weekday_of : ℤ → WeekdayOf
-weekday_of z = cond (is_day z) (On (named (weekday_number (day_count z)))) no_weekday
+unfoldable pub weekday_of : ℤ → Option Weekday
+weekday_of z = cond (is_day z) (Some (named (weekday_number (day_count z)))) None
 
 -- The date after, by the calendar's rule on signed years: what the law of the next day says.
-unfoldable pub date_after : Date → Date
-date_after no-date = no-date
-date_after (Of y m d) =
-    cond (ltb d (month_length (nat_abs y) m)) (Of y m (suc d)) (cond (ltb m 12) (Of y (suc m) 1) (Of (y +ℤ pos 1) 1 1))
+unfoldable pub date_after : Option YearMonthDay → Option YearMonthDay
+date_after None = None
+date_after (Some x) =
+    Some (cond (ltb x.day (month_length (nat_abs x.year) x.month)) (dated x.year x.month (suc x.day)) (cond (ltb x.month 12) (dated x.year (suc x.month) 1) (dated (x.year +ℤ pos 1) 1 1)))

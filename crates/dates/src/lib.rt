@@ -6,25 +6,12 @@ ghost use Rattle.dates.specs.Date.{is_year, day_count, is_day, from_ymd, from_da
 
 pub mod week;
 
-// A day, counted from 1 January 1970 (negative before it), or that there is none.
-#[derive(Clone, Copy)]
-pub enum Day {
-    At(i32),
-    Nothing,
-}
-
-// A date, month and day from 1, or that there is none.
-#[derive(Clone, Copy)]
-pub enum Date {
-    Of { year: i32, month: u32, day: u32 },
-    Nothing,
-}
-
-// A day's weekday, or that there is none.
-#[derive(Clone, Copy)]
-pub enum WeekdayOf {
-    On(week::Weekday),
-    Nothing,
+// A date, month and day from 1.
+#[derive(Clone, Copy, PartialEq, Eq, Debug)]
+pub struct YearMonthDay {
+    pub year: i32,
+    pub month: u32,
+    pub day: u32,
 }
 
 // A year that a date may be in.
@@ -49,59 +36,50 @@ fn count_day(days: i32) -> u32
     gregorian::count::counted_from(4371953, days)
 }
 
-// The day of a year, a month (1 to 12) and a day of it; nothing where there is no such day.
-pub fn from_ymd(year: i32, month: u32, day: u32) -> Day
+// The day of a year, a month (1 to 12) and a day of it, counted from 1 January 1970 (negative before it); `None` where there is no such day.
+pub fn from_ymd(year: i32, month: u32, day: u32) -> Option<i32>
     ensures { result ≡ from_ymd year month day }
 {
     if !is_year(year) {
-        return Day::Nothing;
+        return None;
     }
     let y = gregorian::count::counted_from(10000, year);
     if !gregorian::is_date(y, month, day) {
-        return Day::Nothing;
+        return None;
     }
     let n = gregorian::number(y, month, day);
-    let z = gregorian::count::signed_from(4371953, n);
-    Day::At(z)
+    Some(gregorian::count::signed_from(4371953, n))
 }
 
 // The day `days` from 1 January 1970, if its year is in range.
-pub fn from_days(days: i32) -> Day
+pub fn from_days(days: i32) -> Option<i32>
     ensures { result ≡ from_days days }
 {
-    if is_day(days) {
-        Day::At(days)
-    } else {
-        Day::Nothing
-    }
+    is_day(days).then_some(days)
 }
 
 // Year, month and day.
-pub fn ymd(days: i32) -> Date
+pub fn ymd(days: i32) -> Option<YearMonthDay>
     ensures { result ≡ ymd_of days }
 {
     if !is_day(days) {
-        return Date::Nothing;
+        return None;
     }
-    let n = count_day(days);
-    let x = gregorian::civil_of(n);
-    let y = gregorian::count::signed_from(10000, x.year);
-    Date::Of {
-        year: y,
+    let x = gregorian::civil_of(count_day(days));
+    Some(YearMonthDay {
+        year: gregorian::count::signed_from(10000, x.year),
         month: x.month,
         day: x.day,
-    }
+    })
 }
 
 // The day of the week.
-pub fn weekday(days: i32) -> WeekdayOf
+pub fn weekday(days: i32) -> Option<week::Weekday>
     ensures { result ≡ weekday_of days }
 {
     if !is_day(days) {
-        return WeekdayOf::Nothing;
+        return None;
     }
-    let n = count_day(days);
     // 1 January of year -10000 was a Saturday, 5.
-    let w = week::at((n + 5) % 7);
-    WeekdayOf::On(w)
+    Some(week::at((count_day(days) + 5) % 7))
 }

@@ -1,5 +1,6 @@
 -- What no law fixes: the holidays of a year from published tables, by computation.
 -- Assumes nothing.
+use Rattle.std.specs.Prelude.{Option, Some, None}
 use mathlib.Core.Path.{◌≡◌, refl}
 use mathlib.Core.Bool.{Bool, true, false}
 use mathlib.Core.List.{List, [], ◌∷◌, map}
@@ -7,10 +8,8 @@ use lib.IntN.{ℤ, pos}
 use Rattle.gregorian.specs.Count.{between, counted, signed}
 use Rattle.gregorian.specs.Calendar.{is_leap, leap_day, month_length, days_to_month, is_date, day_number}
 use Rattle.gregorian.proofs.Leap.{is_closed}
-use Rattle.dates.specs.declared.Day.TheVariants.{At, Nothing}
-use Rattle.dates.specs.declared.Date.{Date}
-use Rattle.dates.specs.declared.Date.TheVariants.{Of, Nothing as no-date}
-use Rattle.dates.specs.Date.{is_year, from_ymd}
+use Rattle.dates.specs.declared.YearMonthDay.{YearMonthDay}
+use Rattle.dates.specs.Date.{dated, is_year, from_ymd}
 use Rattle.dates.proofs.Counts.{epoch_is}
 use Rattle.dates.proofs.Laws.{date_of_day}
 use Rattle.lists.specs.Lists.{any}
@@ -21,47 +20,47 @@ use Rattle.computus.proofs.Cases.{easter_2024}
 -- ---- the holidays of 2024, in the order of the definition; 20 November was none in 2023
 
 pub holidays_2024 : holidays_in (pos 2024)
-    ≡ At (pos 19723) ∷ At (pos 19834) ∷ At (pos 19844) ∷ At (pos 19973) ∷ At (pos 20008) ∷ At (pos 20029) ∷ At (pos 20042) ∷ At (pos 20082)
-    ∷ At (pos 20047)
-    ∷ At (pos 19765) ∷ At (pos 19766) ∷ At (pos 19811) ∷ At (pos 19873) ∷ []
+    ≡ Some (pos 19723) ∷ Some (pos 19834) ∷ Some (pos 19844) ∷ Some (pos 19973) ∷ Some (pos 20008) ∷ Some (pos 20029) ∷ Some (pos 20042) ∷ Some (pos 20082)
+    ∷ Some (pos 20047)
+    ∷ Some (pos 19765) ∷ Some (pos 19766) ∷ Some (pos 19811) ∷ Some (pos 19873) ∷ []
 unfolding holidays_in awareness_in from_ymd is_year between counted signed is_date day_number days_to_month month_length leap_day is_leap
 holidays_2024 = rw (easter_2024, is_closed 12024, epoch_is)
 
-pub awareness_2023 : awareness_in (pos 2023) ≡ Nothing
+pub awareness_2023 : awareness_in (pos 2023) ≡ None
 unfolding awareness_in
 awareness_2023 = refl
 
 -- ---- a day and its date, and whether it is one
 
-abbrev days : List (ℤ × Date × Bool)
+abbrev days : List (ℤ × Option YearMonthDay × Bool)
 days =
-    (pos 19723, Of (pos 2024) 1 1, true)
-    ∷ (pos 19834, Of (pos 2024) 4 21, true)
-    ∷ (pos 19844, Of (pos 2024) 5 1, true)
-    ∷ (pos 19973, Of (pos 2024) 9 7, true)
-    ∷ (pos 20008, Of (pos 2024) 10 12, true)
-    ∷ (pos 20029, Of (pos 2024) 11 2, true)
-    ∷ (pos 20042, Of (pos 2024) 11 15, true)
-    ∷ (pos 20082, Of (pos 2024) 12 25, true)
-    ∷ (pos 20047, Of (pos 2024) 11 20, true)
+    (pos 19723, Some (dated (pos 2024) 1 1), true)
+    ∷ (pos 19834, Some (dated (pos 2024) 4 21), true)
+    ∷ (pos 19844, Some (dated (pos 2024) 5 1), true)
+    ∷ (pos 19973, Some (dated (pos 2024) 9 7), true)
+    ∷ (pos 20008, Some (dated (pos 2024) 10 12), true)
+    ∷ (pos 20029, Some (dated (pos 2024) 11 2), true)
+    ∷ (pos 20042, Some (dated (pos 2024) 11 15), true)
+    ∷ (pos 20082, Some (dated (pos 2024) 12 25), true)
+    ∷ (pos 20047, Some (dated (pos 2024) 11 20), true)
     -- Carnival Monday and Tuesday, Good Friday, Corpus Christi
-    ∷ (pos 19765, Of (pos 2024) 2 12, true)
-    ∷ (pos 19766, Of (pos 2024) 2 13, true)
-    ∷ (pos 19811, Of (pos 2024) 3 29, true)
-    ∷ (pos 19873, Of (pos 2024) 5 30, true)
+    ∷ (pos 19765, Some (dated (pos 2024) 2 12), true)
+    ∷ (pos 19766, Some (dated (pos 2024) 2 13), true)
+    ∷ (pos 19811, Some (dated (pos 2024) 3 29), true)
+    ∷ (pos 19873, Some (dated (pos 2024) 5 30), true)
     -- Ash Wednesday, Easter Sunday, 12 January, no date
-    ∷ (pos 19767, Of (pos 2024) 2 14, false)
-    ∷ (pos 19813, Of (pos 2024) 3 31, false)
-    ∷ (pos 19734, Of (pos 2024) 1 12, false)
-    ∷ (pos 2932897, no-date, false)
+    ∷ (pos 19767, Some (dated (pos 2024) 2 14), false)
+    ∷ (pos 19813, Some (dated (pos 2024) 3 31), false)
+    ∷ (pos 19734, Some (dated (pos 2024) 1 12), false)
+    ∷ (pos 2932897, None, false)
     ∷ []
 
-pub day_cases : map (λ (c : ℤ × Date × Bool). is_holiday_on c.0 c.1) days ≡ map (λ (c : ℤ × Date × Bool). c.2) days
+pub day_cases : map (λ (c : ℤ × Option YearMonthDay × Bool). is_holiday_on c.0 c.1) days ≡ map (λ (c : ℤ × Option YearMonthDay × Bool). c.2) days
 unfolding is_holiday_on is_fixed is_awareness by_easter is_movable same any
 day_cases = rw easter_2024
 
 -- Good Friday by its day alone
-good_friday_day : from_ymd (pos 2024) 3 29 ≡ At (pos 19811)
+good_friday_day : from_ymd (pos 2024) 3 29 ≡ Some (pos 19811)
 unfolding from_ymd is_year between counted signed is_date day_number days_to_month month_length leap_day is_leap
 good_friday_day = rw (is_closed 12024, epoch_is)
 
@@ -70,7 +69,7 @@ unfolding is_holiday is_holiday_on is_fixed is_awareness by_easter is_movable sa
 good_friday = rw (date_of_day (pos 2024) 3 29 (pos 19811) good_friday_day, easter_2024)
 
 -- where there is no Easter Sunday, none is by its distance
-pub no_distance : by_easter Nothing (pos 60) ≡ false
+pub no_distance : by_easter None (pos 60) ≡ false
 unfolding by_easter
 no_distance = refl
 

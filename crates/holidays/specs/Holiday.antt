@@ -1,12 +1,9 @@
 -- Document 01, Holidays: eight fixed month-and-day pairs, 20 November from 2024, and Easter -48, -47, -2, +60 days (Brazil's national holidays).
 -- Assumes nothing.
-use Rattle.std.specs.Prelude.{ℕ, Bool, false, ◌&&◌, ◌||◌, List, [], ◌∷◌, eqb, ℤ, pos, neg_ℤ, ◌-ℤ◌}
+use Rattle.std.specs.Prelude.{ℕ, Bool, false, ◌&&◌, ◌||◌, List, [], ◌∷◌, eqb, ℤ, pos, neg_ℤ, ◌-ℤ◌, Option, Some, None}
 use Rattle.std.specs.Int.Signed.{le_z}
 use Rattle.lists.specs.Lists.{any}
-use Rattle.dates.specs.declared.Day.{Day}
-use Rattle.dates.specs.declared.Day.TheVariants.{At, Nothing as no_day}
-use Rattle.dates.specs.declared.Date.{Date}
-use Rattle.dates.specs.declared.Date.TheVariants.{Of, Nothing as no-date}
+use Rattle.dates.specs.declared.YearMonthDay.{YearMonthDay}
 use Rattle.dates.specs.Date.{ymd_of}
 use Rattle.holidays.specs.declared.MonthDay.{MonthDay}
 use Rattle.computus.specs.Easter.{easter_of}
@@ -42,15 +39,15 @@ same a b = le_z a b && le_z b a
 unfoldable pub is_movable : ℤ → Bool
 is_movable distance = any (same distance) distances
 
-unfoldable pub by_easter : Day → ℤ → Bool
-by_easter no_day z = false
-by_easter (At e) z = is_movable (z -ℤ e)
+unfoldable pub by_easter : Option ℤ → ℤ → Bool
+by_easter None z = false
+by_easter (Some e) z = is_movable (z -ℤ e)
 
 -- ---- together
 
-unfoldable pub is_holiday_on : ℤ → Date → Bool
-is_holiday_on z no-date = false
-is_holiday_on z (Of y m d) = is_fixed m d || (is_awareness y m d || by_easter (easter_of y) z)
+unfoldable pub is_holiday_on : ℤ → Option YearMonthDay → Bool
+is_holiday_on z None = false
+is_holiday_on z (Some x) = is_fixed x.month x.day || (is_awareness x.year x.month x.day || by_easter (easter_of x.year) z)
 
 -- The day z from 1 January 1970 is a holiday.
 unfoldable pub is_holiday : ℤ → Bool

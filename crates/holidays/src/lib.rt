@@ -2,14 +2,13 @@
 #![tactic(auto)]
 
 ghost use Rattle.std.specs.Prelude.{◌≡◌, true, ◌<◌, get_or, ℤ, pos};
-ghost use Rattle.dates.specs.declared.Day.TheVariants.{At, Nothing as no_day};
 ghost use Rattle.dates.specs.Date.{is_day};
 ghost use Rattle.computus.specs.Easter.{easter_of};
 ghost use Rattle.holidays.specs.Holiday.{distances, is_fixed, is_awareness, is_movable, by_easter, is_holiday};
 ghost use Rattle.holidays.specs.Year.{moved, awareness_in, holidays_in};
 
 // A month and a day of it.
-#[derive(Clone, Copy)]
+#[derive(Clone, Copy, PartialEq, Eq, Debug)]
 pub struct MonthDay {
     pub month: u32,
     pub day: u32,
@@ -33,17 +32,7 @@ const MOVABLE: [i32; 4] = [-48, -47, -2, 60];
 fn is_fixed(month: u32, day: u32) -> bool
     ensures { result ≡ is_fixed month day }
 {
-    let mut i: usize = 0;
-    while i < 8 {
-        let p = FIXED[i];
-        if p.month == month {
-            if p.day == day {
-                return true;
-            }
-        }
-        i += 1;
-    }
-    false
+    FIXED.iter().any(|p| p.month == month && p.day == day)
 }
 
 // 20 November, from 2024 on.
@@ -57,24 +46,16 @@ fn is_awareness(year: i32, month: u32, day: u32) -> bool
 fn is_movable(distance: i32) -> bool
     ensures { result ≡ is_movable distance }
 {
-    let mut i: usize = 0;
-    while i < 4 {
-        if MOVABLE[i] == distance {
-            return true;
-        }
-        i += 1;
-    }
-    false
+    MOVABLE.contains(&distance)
 }
 
 fn is_by_easter(year: i32, days: i32) -> bool
     requires { is_day days ≡ true }
     ensures { result ≡ by_easter (easter_of year) days }
 {
-    let sunday = computus::easter(year);
-    match sunday {
-        dates::Day::At(e) => is_movable(days - e),
-        dates::Day::Nothing => false,
+    match computus::easter(year) {
+        Some(sunday) => is_movable(days - sunday),
+        None => false,
     }
 }
 
@@ -82,46 +63,38 @@ fn is_by_easter(year: i32, days: i32) -> bool
 pub fn is_holiday(days: i32) -> bool
     ensures { result ≡ is_holiday days }
 {
-    let date = dates::ymd(days);
-    match date {
-        dates::Date::Of { year, month, day } => {
-            if is_fixed(month, day) {
-                return true;
-            }
-            if is_awareness(year, month, day) {
-                return true;
-            }
-            is_by_easter(year, days)
+    match dates::ymd(days) {
+        Some(date) => {
+            is_fixed(date.month, date.day)
+                || is_awareness(date.year, date.month, date.day)
+                || is_by_easter(date.year, days)
         }
-        dates::Date::Nothing => false,
+        None => false,
     }
 }
 
 // A movable holiday, from Easter Sunday.
-fn moved_from(sunday: dates::Day, k: usize) -> dates::Day
-    requires { (k < 4) × ((e : ℤ) → sunday ≡ At e → is_day e ≡ true) }
+fn moved_from(sunday: Option<i32>, k: usize) -> Option<i32>
+    requires { (k < 4) × ((e : ℤ) → sunday ≡ Some e → is_day e ≡ true) }
     ensures { result ≡ moved sunday (get_or distances k (pos 0)) }
 {
-    match sunday {
-        dates::Day::At(e) => dates::Day::At(e + MOVABLE[k]),
-        dates::Day::Nothing => dates::Day::Nothing,
-    }
+    Some(sunday? + MOVABLE[k])
 }
 
 // The 20 November of a year, from 2024 on.
-fn awareness_in(year: i32) -> dates::Day
+fn awareness_in(year: i32) -> Option<i32>
     ensures { result ≡ awareness_in year }
 {
     if 2024 <= year {
         return dates::from_ymd(year, 11, 20);
     }
-    dates::Day::Nothing
+    None
 }
 
 // The holidays of a year by number, from 0 to 12: the fixed ones, 20 November, the movable ones.
-pub fn holiday_in(year: i32, sunday: dates::Day, k: usize) -> dates::Day
+pub fn holiday_in(year: i32, sunday: Option<i32>, k: usize) -> Option<i32>
     requires { (sunday ≡ easter_of year) × (k < 13) }
-    ensures { result ≡ get_or (holidays_in year) k no_day }
+    ensures { result ≡ get_or (holidays_in year) k None }
 {
     if k < 8 {
         let p = FIXED[k];

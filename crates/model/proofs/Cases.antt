@@ -1,4 +1,5 @@
 -- Small cases at the edges of the definitions, by computation.
+use Rattle.std.specs.Prelude.{None}
 use mathlib.Core.Path.{◌≡◌, refl}
 use mathlib.Core.Bool.{Bool, true, false}
 use mathlib.Core.List.{List, [], ◌∷◌, ◌++◌, map, flat_map, zip_with}
@@ -25,7 +26,6 @@ use Rattle.format.specs.declared.ResourceKind.{ResourceKind}
 use Rattle.format.specs.declared.ResourceKind.TheVariants.{Labor, Nonlabor}
 use Rattle.format.specs.declared.Accrual.TheVariants.{Start, End, Uniform}
 use Rattle.format.specs.declared.Region.TheVariants.{None}
-use Rattle.dates.specs.declared.WeekdayOf.TheVariants.{Nothing}
 use Rattle.format.specs.Enumeration.{resource_kind_number}
 use Rattle.format.specs.Book.{Exception, Calendar, Activity, Resource, Assignment, Expense, BaselineLine, Book}
 use Rattle.lists.specs.Lists.{any, span, keep}
@@ -108,7 +108,7 @@ unfolding is_working exception_on usually_works is_region_holiday works_on any
 calendar_cases = rw (weekday_is 19723 (omega arith), weekday_is 19728 (omega arith))
 
 -- a day without a weekday does not work
-pub no_weekday : works_on 127 Nothing ≡ false
+pub no_weekday : works_on 127 None ≡ false
 unfolding works_on
 no_weekday = refl
 

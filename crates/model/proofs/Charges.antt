@@ -1,5 +1,6 @@
 -- What is charged to an activity, three ways and by kind; the spending by month; an activity's days, the baseline's and the variances from it. Each on a small
 -- book, by computation.
+use Rattle.std.specs.Prelude.{Some}
 use mathlib.Core.Path.{◌≡◌}
 use mathlib.Core.List.{List, [], ◌∷◌, map, flat_map, zip_with}
 use mathlib.Core.Option.{Option, none, some, or_else}
@@ -12,7 +13,6 @@ use Rattle.money.specs.Shares.{share_of, shares_from}
 use Rattle.gregorian.specs.Count.{between, counted, signed}
 use Rattle.gregorian.specs.Calendar.{is_leap, leap_day, month_length, days_to_month, is_date, day_number}
 use Rattle.gregorian.proofs.Leap.{is_closed}
-use Rattle.dates.specs.declared.Day.TheVariants.{At}
 use Rattle.dates.specs.Date.{is_year, from_ymd}
 use Rattle.dates.proofs.Counts.{epoch_is}
 use Rattle.dates.proofs.Laws.{date_of_day, ymd_of_lem}
@@ -92,7 +92,7 @@ abbrev spent : ℕ → ℤ → ℤ → ℤ → Expense
 spent activity planned actual remaining = record { activity = activity; accrual = Uniform; planned = planned; actual = actual; remaining = remaining }
 
 -- a month's start by the number of its day
-start_of : (m d z : ℕ) → from_ymd (pos 1970) m d ≡ At (pos z) → month_start z ≡ z + 1 - d
+start_of : (m d z : ℕ) → from_ymd (pos 1970) m d ≡ Some (pos z) → month_start z ≡ z + 1 - d
 unfolding month_start
 start_of m d z e = rw (ymd_of_lem (pos z) (pos 1970) m d (date_of_day (pos 1970) m d (pos z) e)).day
 

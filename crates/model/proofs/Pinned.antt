@@ -1,4 +1,5 @@
 -- What no other case fixes: each of these figures on a small book, by computation.
+use Rattle.std.specs.Prelude.{Some}
 use mathlib.Core.Path.{◌≡◌, refl}
 use mathlib.Core.Bool.{Bool, true, false}
 use mathlib.Core.List.{List, [], ◌∷◌, map, flat_map, zip_with}
@@ -16,9 +17,7 @@ use Rattle.floats.specs.Figures.{index}
 use Rattle.gregorian.specs.Count.{between, counted, signed}
 use Rattle.gregorian.specs.Calendar.{is_leap, leap_day, month_length, days_to_month, is_date, day_number}
 use Rattle.gregorian.proofs.Leap.{is_closed}
-use Rattle.dates.specs.declared.Day.TheVariants.{At}
-use Rattle.dates.specs.declared.Date.TheVariants.{Of}
-use Rattle.dates.specs.Date.{is_year, from_ymd, ymd_of}
+use Rattle.dates.specs.Date.{dated, is_year, from_ymd, ymd_of}
 use Rattle.dates.proofs.Counts.{epoch_is}
 use Rattle.dates.proofs.Laws.{date_of_day, ymd_of_lem}
 use Rattle.holidays.specs.Holiday.{is_fixed, is_holiday_on, is_holiday}
@@ -52,11 +51,11 @@ use Rattle.model.proofs.Days.{day_list_one}
 
 -- ---- Christmas 2024, a Wednesday: day 20,082
 
-christmas_day : from_ymd (pos 2024) 12 25 ≡ At (pos 20082)
+christmas_day : from_ymd (pos 2024) 12 25 ≡ Some (pos 20082)
 unfolding from_ymd is_year between counted signed is_date day_number days_to_month month_length leap_day is_leap
 christmas_day = rw (is_closed 12024, epoch_is)
 
-christmas : ymd_of (pos 20082) ≡ Of (pos 2024) 12 25
+christmas : ymd_of (pos 20082) ≡ Some (dated (pos 2024) 12 25)
 christmas = date_of_day (pos 2024) 12 25 (pos 20082) christmas_day
 
 -- its month begins on 1 December

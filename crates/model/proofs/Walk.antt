@@ -1,4 +1,5 @@
 -- The walk over an activity's days on small books, by computation. Then of every book: planned value is what the walk's two counts share out.
+use Rattle.std.specs.Prelude.{Some}
 use Prim.Native.Nat.{ℕ, ◌+◌, ◌-◌, ◌%◌, ◌≤◌}
 use mathlib.Core.Path.{◌≡◌, refl, ap, ◌∙◌}
 use mathlib.Core.Bool.{true}
@@ -18,7 +19,6 @@ use Rattle.format.specs.declared.EtcTechnique.TheVariants.{Remaining}
 use Rattle.format.specs.declared.Region.TheVariants.{None}
 use Rattle.format.specs.Book.{Calendar, BaselineLine, Book}
 use Rattle.format.specs.InRange.{InRange}
-use Rattle.dates.specs.declared.WeekdayOf.TheVariants.{On}
 use Rattle.dates.specs.declared.week.Weekday.{Weekday}
 use Rattle.dates.specs.declared.week.Weekday.TheVariants.{Monday, Tuesday, Wednesday, Thursday, Friday, Saturday, Sunday}
 use Rattle.dates.specs.Week.{named}
@@ -110,7 +110,7 @@ every_day_works : (date : ℕ) → date ≤ 47481 → is_working (week 127) date
 unfolding is_working exception_on usually_works is_region_holiday any works_on
 every_day_works date h = rw (weekday_is date (omega arith)) (go (named ((date + 3) % 7)))
   where
-    go : (d : Weekday) → works_on 127 (On d) ≡ true
+    go : (d : Weekday) → works_on 127 (Some d) ≡ true
     go Monday = refl
     go Tuesday = refl
     go Wednesday = refl

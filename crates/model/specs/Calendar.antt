@@ -1,11 +1,10 @@
 -- Which dates a calendar works.
-use Rattle.std.specs.Prelude.{ℕ, ◌/◌, ◌%◌, ◌^◌, Bool, false, not, cond, ◌&&◌, ◌||◌, List, [], ◌∷◌, eqb, pos}
+use Rattle.std.specs.Prelude.{ℕ, ◌/◌, ◌%◌, ◌^◌, Bool, false, not, cond, ◌&&◌, ◌||◌, List, [], ◌∷◌, eqb, pos, Option, Some, None}
 use Rattle.std.proofs.Math.Option.{Option, none, some, get_or}
 use Rattle.format.specs.declared.Region.{Region}
 use Rattle.format.specs.declared.Region.TheVariants.{None, Brazil}
 use Rattle.format.specs.Book.{Exception, Calendar, Activity, Book}
-use Rattle.dates.specs.declared.WeekdayOf.{WeekdayOf}
-use Rattle.dates.specs.declared.WeekdayOf.TheVariants.{On, Nothing}
+use Rattle.dates.specs.declared.week.Weekday.{Weekday}
 use Rattle.dates.specs.Week.{index_of}
 use Rattle.dates.specs.Date.{weekday_of}
 use Rattle.holidays.specs.Holiday.{is_holiday}
@@ -26,9 +25,9 @@ is_region_holiday None date = false
 is_region_holiday Brazil date = is_holiday (pos date)
 
 -- the weekday's bit of the week, bit 0 Monday
-unfoldable pub works_on : ℕ → WeekdayOf → Bool
-works_on week Nothing = false
-works_on week (On weekday) = eqb (week / 2 ^ index_of weekday % 2) 1
+unfoldable pub works_on : ℕ → Option Weekday → Bool
+works_on week None = false
+works_on week (Some weekday) = eqb (week / 2 ^ index_of weekday % 2) 1
 
 -- the extra days, then the holidays and the region, then the week
 unfoldable pub usually_works : Calendar → ℕ → Bool

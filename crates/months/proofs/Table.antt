@@ -1,5 +1,6 @@
 -- The table of first days against the calendar: a test at each entry, which the checker computes, and its rule.
 -- Assumes nothing.
+use Rattle.std.specs.Prelude.{Some}
 use Prim.Native.Nat.{ℕ, ◌+◌, ◌-◌, ◌/◌, ◌%◌, ◌≤◌, ◌<◌}
 use mathlib.Core.Path.{◌≡◌, sym, ap, ap₂, ◌∙◌}
 use mathlib.Core.Bool.{Bool, true}
@@ -13,7 +14,6 @@ use Rattle.gregorian.specs.Calendar.{is_leap, leap_day, month_length, days_to_mo
 use Rattle.gregorian.proofs.Below.{at_below}
 use Rattle.gregorian.proofs.Leap.{closed, is_closed}
 use Rattle.gregorian.proofs.Laws.{is_date_lem}
-use Rattle.dates.specs.declared.Day.TheVariants.{At}
 use Rattle.dates.specs.Date.{epoch, is_year, from_ymd}
 use Rattle.dates.proofs.Counts.{epoch_is, year_in}
 use Rattle.months.specs.Months.{first_day, january2000}
@@ -69,11 +69,11 @@ number_is i =
     ap₂ (λ (y m : ℕ). day_number y m 1) y m ∙ omega (arith, first_least (january2000 + i) (omega arith))
 
 -- The table agrees with `from_ymd` at each of its entries.
-pub table_agrees : (i : ℕ) → i < 1200 → from_ymd (pos (2000 + i / 12)) (i % 12 + 1) 1 ≡ At (pos (get_or first_days i 0))
+pub table_agrees : (i : ℕ) → i < 1200 → from_ymd (pos (2000 + i / 12)) (i % 12 + 1) 1 ≡ Some (pos (get_or first_days i 0))
 unfolding from_ymd
 table_agrees i h =
     let n = 2000 + i / 12 in
     let c : counted 10000 (pos n) ≡ 12000 + i / 12 = counted_is 10000 n ∙ omega arith in
     let y : is_year (pos n) ≡ true = sym (ap is_year (signed_is 10000 n)) ∙ year_in (10000 + n) (omega arith) (omega arith) in
     rw (y, c, first_date_lem (12000 + i / 12) (i % 12 + 1) (omega arith) (omega arith))
-    (ap At (ap (signed epoch) (number_is i) ∙ signed_is epoch (first_day (january2000 + i)) ∙ ap pos (sym (entries i h))))
+    (ap Some (ap (signed epoch) (number_is i) ∙ signed_is epoch (first_day (january2000 + i)) ∙ ap pos (sym (entries i h))))

@@ -17,7 +17,8 @@ ghost use Rattle.computus.specs.Easter.{easter_of};
 ghost use Rattle.holidays.specs.Holiday.{is_holiday};
 ghost use Rattle.parts.specs.Numbers.{absent, presence, number_of, date_number, weekday_number};
 
-use dates::{Date, Day, WeekdayOf};
+use dates::YearMonthDay;
+use dates::week::Weekday;
 use money::scale::SpentShare;
 
 const NONE: i64 = -9223372036854775808;
@@ -107,34 +108,34 @@ fn wide(z: i32) -> i64
     z as i64
 }
 
-fn number(day: Day) -> i64
+fn number(day: Option<i32>) -> i64
     ensures { result ≡ number_of day }
 {
     match day {
-        Day::At(days) => wide(days),
-        Day::Nothing => NONE,
+        Some(days) => wide(days),
+        None => NONE,
     }
 }
 
 // Month and day above the year.
-fn date_number(date: Date) -> i64
+fn date_number(date: Option<YearMonthDay>) -> i64
     ensures { result ≡ date_number date }
 {
     match date {
-        Date::Of { year, month, day } => {
-            let high = (month as u64 * 100 + day as u64) * 1048576;
-            high as i64 + wide(year)
+        Some(x) => {
+            let high = (u64::from(x.month) * 100 + u64::from(x.day)) * 1048576;
+            high as i64 + wide(x.year)
         }
-        Date::Nothing => NONE,
+        None => NONE,
     }
 }
 
-fn weekday_number(weekday: WeekdayOf) -> i64
+fn weekday_number(weekday: Option<Weekday>) -> i64
     ensures { result ≡ weekday_number weekday }
 {
     match weekday {
-        WeekdayOf::On(w) => w.index() as i64,
-        WeekdayOf::Nothing => NONE,
+        Some(w) => w.index() as i64,
+        None => NONE,
     }
 }
 

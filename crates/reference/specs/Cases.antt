@@ -1,6 +1,6 @@
 -- The thirteen reference cases of document 01, a table under one theorem: for each, what the definition gives and what it must give.
 -- A value that may be absent is no number or one.
-use Rattle.std.specs.Prelude.{ℕ, ◌+◌, ◌≡◌, List, [], ◌∷◌, map, ℤ, pos, neg_ℤ}
+use Rattle.std.specs.Prelude.{ℕ, ◌+◌, ◌≡◌, List, [], ◌∷◌, map, ℤ, pos, neg_ℤ, Option, Some, None}
 use Rattle.std.proofs.Math.Option.{none, some}
 use Rattle.std.specs.Float.Ieee.{of_int, mul, div, lt}
 use Rattle.money.specs.Shares.{share_of as shareOfDay, shares_from, spread}
@@ -13,8 +13,6 @@ use Rattle.model.specs.declared.Earned.{Earned}
 use Rattle.model.specs.Forecast.{cpi, spi, to_earn, etc}
 use Rattle.lists.specs.Lists.{keep}
 use Rattle.model.specs.Costs.{later, price_among, price_on}
-use Rattle.dates.specs.declared.Day.{Day}
-use Rattle.dates.specs.declared.Day.TheVariants.{At, Nothing}
 use Rattle.dates.specs.Date.{from_ymd}
 use Rattle.dates.proofs.Cases.{leap_day_2000, no_leap_day_2100}
 use Rattle.computus.specs.Easter.{easter_of}
@@ -50,9 +48,9 @@ three_prices = undated 100 ∷ since 20000 200 ∷ since 20000 300 ∷ []
 abbrev pub earned_below_zero : Earned
 earned_below_zero = record { budget = pos 1000; planned = pos 200; earned = minus 100; actual = pos 100; remaining = pos 0 }
 
-abbrev pub day_in : Day → List ℤ
-day_in (At z) = z ∷ []
-day_in Nothing = []
+abbrev pub day_in : Option ℤ → List ℤ
+day_in (Some z) = z ∷ []
+day_in None = []
 
 unfoldable pub cases : List Case
 cases =

@@ -1,7 +1,8 @@
 // The crates `dates` and `holidays`.
 use crate::answer::{Answer, four, one, two, unknown};
 use crate::names::place;
-use dates::{Date, Day, WeekdayOf};
+use dates::YearMonthDay;
+use dates::week::Weekday;
 use money::words::{from_bits, to_bits};
 
 // A number of 32 bits, signed; 0 for one that has more.
@@ -28,24 +29,24 @@ fn bits(z: i32) -> u64 {
     to_bits(z as i64)
 }
 
-fn day(d: Day) -> Answer {
+fn day(d: Option<i32>) -> Answer {
     match d {
-        Day::At(days) => two(1, bits(days)),
-        Day::Nothing => two(0, 0),
+        Some(days) => two(1, bits(days)),
+        None => two(0, 0),
     }
 }
 
-fn date(d: Date) -> Answer {
+fn date(d: Option<YearMonthDay>) -> Answer {
     match d {
-        Date::Of { year, month, day } => four(1, bits(year), month as u64, day as u64),
-        Date::Nothing => four(0, 0, 0, 0),
+        Some(x) => four(1, bits(x.year), u64::from(x.month), u64::from(x.day)),
+        None => four(0, 0, 0, 0),
     }
 }
 
-fn weekday(w: WeekdayOf) -> Answer {
+fn weekday(w: Option<Weekday>) -> Answer {
     match w {
-        WeekdayOf::On(d) => two(1, d.index() as u64),
-        WeekdayOf::Nothing => two(0, 0),
+        Some(d) => two(1, d.index() as u64),
+        None => two(0, 0),
     }
 }
 

@@ -1,14 +1,14 @@
 -- `dates::from_days` meets its contract.
 -- Assumes nothing.
-use mir.Facts.{to_z-of_z}
+use Rattle.std.proofs.Common.{◌≡◌, ◌∙◌, Bool, true, false, ℤ, cond, Some, None, refl, to_z-of_z}
+use Rattle.core.specs.Bool.{then_some}
 use Rattle.dates.specs.Date.{is_day, from_days}
-use Rattle.gregorian.proofs.Counts.{tested}
 use Rattle.dates.proofs.from_days.Goals as goal
 
-pub returns-then-is_day : goal.returns-then-is_day
-unfolding from_days
-returns-then-is_day c = rw (tested is_day c.ranges.days c.is_day.ensures c.if-is_day.true, to_z-of_z c.ranges.days)
+picked : (b : Bool) (z : ℤ) → then_some b z ≡ cond b (Some z) None
+picked true z = refl
+picked false z = refl
 
-pub returns-else-is_day : goal.returns-else-is_day
+pub returns : goal.returns
 unfolding from_days
-returns-else-is_day c = rw (tested is_day c.ranges.days c.is_day.ensures c.if-is_day.false)
+returns c = c.then_some.ensures ∙ rw (c.is_day.ensures, to_z-of_z c.ranges.days) (picked (is_day c.args.days) c.args.days)

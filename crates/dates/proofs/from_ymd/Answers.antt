@@ -1,5 +1,6 @@
 -- `dates::from_ymd` meets its contract.
 -- Assumes nothing.
+use Rattle.std.specs.Prelude.{Some}
 use mathlib.Core.Path.{◌≡◌, ap, sym, ◌∙◌}
 use mathlib.Core.Bool.{Bool, true, false}
 use native.Mathlib.Omega.{arith}
@@ -8,7 +9,6 @@ use mir.Syntax.{w32}
 use mir.Facts.{to_z-of_z}
 use Rattle.gregorian.specs.Calendar.{is_date, day_number}
 use Rattle.gregorian.proofs.Laws.{valid}
-use Rattle.dates.specs.declared.Day.TheVariants.{At}
 use Rattle.gregorian.specs.Count.{counted, signed}
 use Rattle.dates.specs.Date.{is_year, year_count, from_ymd}
 use Rattle.gregorian.proofs.Counts.{tested, room}
@@ -50,14 +50,14 @@ number : (c : After-number-n) → c.number-n.result ≡
     day_number (year_count c.args.year) c.args.month c.args.day
 number c = rw (← count c.before.before.before) c.number-n.ensures
 
-pub signed_from-z-requires : goal.signed_from-z-requires
-signed_from-z-requires c =
-    let w = year_within _ (is_year_lem (goal.at.signed_from-z-requires c).Else-not-is_year) in
-    let b = number_within _ _ _ w.from w.upto (valid _ _ _ (date_test (goal.at.signed_from-z-requires c).After-is_date true c.if-not-is_date.false)) in
-    rw (number (goal.at.signed_from-z-requires c).After-number-n) (lit< tt, omega (arith, b.1))
+pub signed_from-requires : goal.signed_from-requires
+signed_from-requires c =
+    let w = year_within _ (is_year_lem (goal.at.signed_from-requires c).Else-not-is_year) in
+    let b = number_within _ _ _ w.from w.upto (valid _ _ _ (date_test (goal.at.signed_from-requires c).After-is_date true c.if-not-is_date.false)) in
+    rw (number (goal.at.signed_from-requires c).After-number-n) (lit< tt, omega (arith, b.1))
 
 pub returns : goal.returns
 unfolding from_ymd
 returns c =
     rw (is_year_lem (goal.at.returns c).Else-not-is_year, date_test (goal.at.returns c).After-is_date true c.if-not-is_date.false, epoch_is)
-    (ap At (to_z-of_z {w = w32} (record { sfits = c.signed_from-z.type_inv }) ∙ c.signed_from-z.ensures ∙ ap (signed 4371953) (number (goal.at.returns c).After-number-n)))
+    (ap Some (to_z-of_z {w = w32} (record { sfits = c.signed_from.type_inv }) ∙ c.signed_from.ensures ∙ ap (signed 4371953) (number (goal.at.returns c).After-number-n)))

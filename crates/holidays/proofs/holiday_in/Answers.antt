@@ -1,5 +1,6 @@
 -- `holidays::holiday_in` meets its contract.
 -- Assumes nothing.
+use Rattle.std.specs.Prelude.{Option, None}
 use borrow.Author.Rules.{rules}
 use Prim.Native.Nat.{ℕ, ◌+◌, ◌-◌}
 use mathlib.Core.Path.{◌≡◌, sym, ap, ◌∙◌}
@@ -7,8 +8,6 @@ use native.Mathlib.Omega.{arith}
 use lib.IntN.{ℤ, pos}
 use lib.ListN.{get_or}
 use mir.Facts.{to_z-of_z}
-use Rattle.dates.specs.declared.Day.{Day}
-use Rattle.dates.specs.declared.Day.TheVariants.{Nothing}
 use Rattle.holidays.specs.Holiday.{on, fixed_days, distances}
 use Rattle.holidays.specs.Year.{day_in, awareness_in, moved, holidays_in}
 use Rattle.computus.proofs.Meeus.{easter_day}
@@ -21,7 +20,7 @@ returns-then-k-lt8 c =
 
 pub returns-then-k-eq8 : goal.returns-then-k-eq8
 returns-then-k-eq8 c =
-    c.awareness_in.ensures ∙ ap awareness_in (to_z-of_z c.ranges.year) ∙ sym (ap (λ (k : ℕ). get_or (holidays_in c.args.year) k Nothing) c.if-k-eq8.true ∙ awareness_at c.args.year)
+    c.awareness_in.ensures ∙ ap awareness_in (to_z-of_z c.ranges.year) ∙ sym (ap (λ (k : ℕ). get_or (holidays_in c.args.year) k None) c.if-k-eq8.true ∙ awareness_at c.args.year)
 
 pub moved_from-requires : goal.moved_from-requires
 moved_from-requires c =
@@ -32,4 +31,4 @@ returns c =
     let y = c.args.year in
     let k = c.args.k in
     let e : k - 9 + 9 ≡ k = omega arith in
-    c.moved_from.ensures ∙ ap (λ (t : Day). moved t (get_or distances (k - 9) (pos 0))) c.requires.0 ∙ sym (movable_at y (k - 9) (omega arith)) ∙ ap (λ (n : ℕ). get_or (holidays_in y) n Nothing) e
+    c.moved_from.ensures ∙ ap (λ (t : Option ℤ). moved t (get_or distances (k - 9) (pos 0))) c.requires.0 ∙ sym (movable_at y (k - 9) (omega arith)) ∙ ap (λ (n : ℕ). get_or (holidays_in y) n None) e

@@ -7,10 +7,10 @@ use mir.Syntax.{w32, w64}
 use Rattle.integer.specs.Linear.{back}
 use Rattle.parts.proofs.number.Goals as goal
 
-pub returns-in-At : goal.returns-in-At
-returns-in-At c =
-    let days : mag c.in-At.days < 2 ^ 31 = omega arith in
-    rw c.in-At.is (back w64 _ c.wide.type_inv ∙ c.wide.ensures ∙ back w32 _ days)
+pub returns-in-Some : goal.returns-in-Some
+returns-in-Some c =
+    let days : mag c.in-Some.days < 2 ^ 31 = omega arith in
+    rw c.in-Some.is (back w64 _ c.wide.type_inv ∙ c.wide.ensures ∙ back w32 _ days)
 
-pub returns-in-Nothing : goal.returns-in-Nothing
-returns-in-Nothing c = rw c.in-Nothing.is refl
+pub returns-in-None : goal.returns-in-None
+returns-in-None c = rw c.in-None.is refl

@@ -23,13 +23,13 @@ seven Saturday = omega arith
 seven Sunday = omega arith
 
 index_below : (c : After-index) → c.index.result < 7
-index_below c = rw c.index.ensures (seven c.in-On.w)
+index_below c = rw c.index.ensures (seven c.in-Some.w)
 
 pub overflow_cast-result : goal.overflow_cast-result
 overflow_cast-result c = omega (linear, index_below (goal.at.overflow_cast-result c).After-index)
 
-pub returns-in-On : goal.returns-in-On
-returns-in-On c = rw c.in-On.is (to_z_pos w64 {n = c.index.result} (omega (arith, index_below (goal.at.returns-in-On c).After-index)) ∙ ap pos c.index.ensures)
+pub returns-in-Some : goal.returns-in-Some
+returns-in-Some c = rw c.in-Some.is (to_z_pos w64 {n = c.index.result} (omega (arith, index_below (goal.at.returns-in-Some c).After-index)) ∙ ap pos c.index.ensures)
 
-pub returns-in-Nothing : goal.returns-in-Nothing
-returns-in-Nothing c = rw c.in-Nothing.is refl
+pub returns-in-None : goal.returns-in-None
+returns-in-None c = rw c.in-None.is refl
