@@ -162,6 +162,6 @@ pub holiday_day : (z : ℤ) → is_holiday z ≡ true → is_day z ≡ true
 unfolding is_holiday is_holiday_on ymd_of
 holiday_day z = go (is_day z)
   where
-    go : (b : Bool) → is_holiday_on z (cond b (date_of (civil (day_count z))) None) ≡ true → b ≡ true
+    go : (b : Bool) → is_holiday_on z (cond b (Some (date_of (civil (day_count z)))) None) ≡ true → b ≡ true
     go true h = refl
     go false h = absurd (false≢true h)

@@ -1,7 +1,6 @@
 -- `holidays::holiday_in` meets its contract.
 -- Assumes nothing.
 use Rattle.std.specs.Prelude.{Option, None}
-use borrow.Author.Rules.{rules}
 use Prim.Native.Nat.{ℕ, ◌+◌, ◌-◌}
 use mathlib.Core.Path.{◌≡◌, sym, ap, ◌∙◌}
 use native.Mathlib.Omega.{arith}

@@ -1,7 +1,6 @@
 -- `holidays::is_by_easter` meets its contract.
 -- Assumes nothing.
 use Rattle.std.specs.Prelude.{Some}
-use borrow.Author.Rules.{rules}
 use mathlib.Core.Path.{◌≡◌, ap, sym, ◌∙◌}
 use mathlib.Core.Bool.{true}
 use lib.IntN.{ℤ, ◌-ℤ◌}
@@ -21,11 +20,11 @@ module _ (days e : ℤ) (day : is_day days ≡ true) (sunday : is_day e ≡ true
   distance : to_z w32 (of_z w32 days) -ℤ to_z w32 (of_z w32 e) ≡ days -ℤ e
   distance = rw (to_z-of_z (day_fits days day), to_z-of_z (day_fits e sunday))
 
-sunday : (c : In-Some) → easter_of c.args.year ≡ Some c.in-Some.e
-sunday c = ap easter_of (sym (to_z-of_z c.ranges.year)) ∙ sym c.easter-sunday.ensures ∙ c.in-Some.is
+sunday : (c : In-Some) → easter_of c.args.year ≡ Some c.in-Some.sunday
+sunday c = ap easter_of (sym (to_z-of_z c.ranges.year)) ∙ sym c.easter.ensures ∙ c.in-Some.is
 
-in_range_lem : (c : In-Some) → is_day c.in-Some.e ≡ true
-in_range_lem c = easter_day _ c.in-Some.e (sunday c)
+in_range_lem : (c : In-Some) → is_day c.in-Some.sunday ≡ true
+in_range_lem c = easter_day _ c.in-Some.sunday (sunday c)
 
 pub overflow_sub-days : goal.overflow_sub-days
 overflow_sub-days c =
@@ -42,5 +41,5 @@ returns-in-Some c =
 pub returns-in-None : goal.returns-in-None
 unfolding by_easter
 returns-in-None c =
-    let n = ap easter_of (sym (to_z-of_z c.ranges.year)) ∙ sym c.easter-sunday.ensures ∙ c.in-None.is in
+    let n = ap easter_of (sym (to_z-of_z c.ranges.year)) ∙ sym c.easter.ensures ∙ c.in-None.is in
     rw n

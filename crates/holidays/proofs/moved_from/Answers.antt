@@ -1,6 +1,5 @@
 -- `holidays::moved_from` meets its contract.
 -- Assumes nothing.
-use borrow.Author.Rules.{rules}
 use Prim.Native.Nat.{ℕ, ◌<◌}
 use mathlib.Core.Path.{◌≡◌}
 use mathlib.Core.Bool.{true}
@@ -25,8 +24,8 @@ module _ (e : ℤ) (k : ℕ) (inside : is_day e ≡ true) (below : k < 4) where
 
 pub overflow_add-result : goal.overflow_add-result
 overflow_add-result c =
-    let d = c.requires.1 _ c.in-Some.is in rw (is_sum _ _ d c.requires.0) (fits _ _ d c.requires.0)
+    let d = c.requires.1 _ c.in_ok-sunday.was in rw (is_sum _ _ d c.requires.0) (fits _ _ d c.requires.0)
 
-pub returns-in-Some : goal.returns-in-Some
-returns-in-Some c =
-    let d = c.requires.1 _ c.in-Some.is in rw (c.in-Some.is, is_sum _ _ d c.requires.0, to_z-of_z (fits _ _ d c.requires.0))
+pub returns : goal.returns
+returns c =
+    let d = c.requires.1 _ c.in_ok-sunday.was in rw (c.in_ok-sunday.was, is_sum _ _ d c.requires.0, to_z-of_z (fits _ _ d c.requires.0))
