@@ -9,17 +9,8 @@ ghost use Rattle.earned.specs.Done.{done_in};
 
 use activities::schedule::{REMAINING, WORKING, entry, percent_at, status_at};
 use fields::OptionalAmount;
-use floats::{Index, clamp01, ratio, share};
+use floats::{clamp01, ratio, share};
 use format::{EvTechnique, Status};
-
-fn value_or(index: Index, other: f64) -> f64
-    ensures { result ≡ model.value_or index other }
-{
-    if index.present {
-        return index.value;
-    }
-    other
-}
 
 fn amount_or_zero(amount: OptionalAmount) -> i64
     ensures { result ≡ get_or (amount_option amount) (pos 0) }
@@ -37,8 +28,7 @@ fn by_duration(working: u64, remaining: u64) -> f64
 {
     let all = working as i64;
     let left = remaining as i64;
-    let worked = ratio(all - left, all);
-    value_or(worked, 0.0)
+    ratio(all - left, all).unwrap_or(0.0)
 }
 
 // Before the work is marked started: a percent that was judged, and nothing else.
@@ -71,8 +61,7 @@ fn under_way(
         EvTechnique::Physical => share(amount_or_zero(percent)),
         EvTechnique::Duration => clamp01(by_duration(working, remaining)),
         EvTechnique::Units => {
-            let index = ratio(done, all);
-            clamp01(value_or(index, by_duration(working, remaining)))
+            clamp01(ratio(done, all).unwrap_or(by_duration(working, remaining)))
         }
         EvTechnique::ZeroHundred => 0.0,
         EvTechnique::FiftyFifty => 0.5,

@@ -1,4 +1,5 @@
 -- The laws of indices and shares: no ratio is a NaN or an infinity, a share lies in 0..1, and -0 stays -0. Assumes nothing.
+use Rattle.std.specs.Prelude.{Some}
 use Rattle.std.proofs.Common.{◌≡◌, ℕ, zero, suc, ◌*◌, ◌^◌, ◌<◌, ◌≤◌, Bool, true, false, cond, T, ℤ, pos, negsuc, nat_abs, refl, ap, lt_of_lt_of_le, mul-le-mul_right, zero-lt-suc, mul-pos, arith, lit<, lit≤, pow_pos, w64, SFits, ne_eqb}
 use lib.Ieee.{Float, nan, inf, fin, binary64, up, down, unlike, round, div, lt, le, eq, is_nan, of_int, to_bits}
 use lib.Ieee.Exact.{HasValue}
@@ -6,7 +7,7 @@ use lib.Ieee.Fits.{up_pos, down_pos}
 use lib.Ieee.Order.{transfer}
 use lib.Ieee.Scale.{grid, finite}
 use Rattle.floats.specs.Rounding.{nearest_of}
-use Rattle.floats.specs.Figures.{nought, minus_nought, one, ten_thousand, index, ratio_of, at_rate_of, clamp01_of, share_of, bits_of}
+use Rattle.floats.specs.Figures.{nought, minus_nought, one, ten_thousand, ratio_of, at_rate_of, clamp01_of, share_of, bits_of, or_nought}
 use Rattle.floats.proofs.Comparing.{not_less}
 use Rattle.floats.proofs.Bounds.{at_least_whole, top_value, at_most_top}
 use Rattle.floats.proofs.Laws.{round_zero}
@@ -71,7 +72,7 @@ nearest_div a y t h f l w =
 units_ge : (n : ℕ) → 0 < n → 2 ^ 1074 ≤ grid binary64 n 1
 units_ge n h = at_least_whole 1 n 1 (lit< tt) (lit≤ tt) (omega arith)
 
-pub ratio_finite : (a b : ℤ) → SFits w64 a → SFits w64 b → T (finite (ratio_of a b).value)
+pub ratio_finite : (a b : ℤ) → SFits w64 a → SFits w64 b → T (finite (or_nought (ratio_of a b)))
 ratio_finite a (pos zero) f g = tt
 ratio_finite a (pos (suc n)) f g =
     nearest_div a (nearest_of (pos (suc n))) false (units_of (pos (suc n))) f (units_ge (suc n) (zero-lt-suc n)) (nearest_value (pos (suc n)) g)
@@ -111,8 +112,8 @@ finite_in nan h = absurd h
 finite_in (inf s) h = absurd h
 finite_in (fin s m e) h = clamp01_in (fin s m e) refl
 
-pub ratio_in : (a b : ℤ) → SFits w64 a → SFits w64 b → InUnit (clamp01_of (ratio_of a b).value)
-ratio_in a b f g = finite_in (ratio_of a b).value (ratio_finite a b f g)
+pub ratio_in : (a b : ℤ) → SFits w64 a → SFits w64 b → InUnit (clamp01_of (or_nought (ratio_of a b)))
+ratio_in a b f g = finite_in (or_nought (ratio_of a b)) (ratio_finite a b f g)
 
 pub share_in : (hundredths : ℤ) → SFits w64 hundredths → InUnit (share_of hundredths)
 share_in z f =
@@ -129,10 +130,10 @@ over_negative (fin c n d) h u some l w =
     rw (ne_eqb n 0 (λ (z : n ≡ 0). omega arith), w.0)
     (round_zero true (0 * down d) (n * up d * 1) (omega (arith, mul-pos digits (up_pos d))) (omega arith))
 
-pub ratio_minus_nought : (n : ℕ) → SFits w64 (negsuc n) → ratio_of (pos 0) (negsuc n) ≡ index minus_nought
+pub ratio_minus_nought : (n : ℕ) → SFits w64 (negsuc n) → ratio_of (pos 0) (negsuc n) ≡ Some minus_nought
 unfolding of_int round
 ratio_minus_nought n f =
-    ap index (over_negative (nearest_of (negsuc n)) (units_of (negsuc n)) (2 ^ 1074) (pow_pos 1074) (units_ge (suc n) (zero-lt-suc n)) (nearest_value (negsuc n) f))
+    ap Some (over_negative (nearest_of (negsuc n)) (units_of (negsuc n)) (2 ^ 1074) (pow_pos 1074) (units_ge (suc n) (zero-lt-suc n)) (nearest_value (negsuc n) f))
 
 pub clamp01_minus_nought : clamp01_of minus_nought ≡ minus_nought
 unfolding lt
@@ -142,6 +143,6 @@ pub bits_minus_nought : bits_of minus_nought ≡ 2 ^ 63
 unfolding to_bits
 bits_minus_nought = refl
 
-pub rate_minus_nought : (left : ℤ) → at_rate_of left (index minus_nought) ≡ left
+pub rate_minus_nought : (left : ℤ) → at_rate_of left (Some minus_nought) ≡ left
 unfolding lt
 rate_minus_nought left = refl

@@ -1,9 +1,8 @@
 -- What no law fixes: the definitions on small numbers, at ties and at the limit, by computation. Assumes nothing.
-use Rattle.std.proofs.Common.{◌≡◌, true, false, List, [], ◌∷◌, map, ℤ, pos, negsuc, refl}
+use Rattle.std.proofs.Common.{◌≡◌, true, false, List, [], ◌∷◌, map, Option, Some, None, ℤ, pos, negsuc, refl}
 use lib.Ieee.{Float, nan, inf, fin, of_int, mul, div, lt, to_bits}
-use Rattle.floats.specs.declared.Index.{Index}
 use Rattle.floats.specs.Rounding.{nearest_of, rounded, within, whole_of}
-use Rattle.floats.specs.Figures.{nought, minus_nought, one, ten_thousand, no_index, index, ratio_of, both_of, at_rate_of, clamp01_of, share_of, earned_of, bits_of}
+use Rattle.floats.specs.Figures.{nought, minus_nought, one, ten_thousand, or_nought, ratio_of, both_of, at_rate_of, clamp01_of, share_of, earned_of, bits_of}
 
 abbrev half : Float
 half = fin false 1 (negsuc 0)
@@ -43,23 +42,23 @@ within_cases = refl
 -- ---- indices: absent where the divisor is 0, and the product where one of two is
 
 pub ratio_cases : ratio_of (pos 1) (pos 2) ∷ ratio_of (pos 3) (negsuc 1) ∷ ratio_of (pos 0) (pos 2) ∷ ratio_of (pos 1) (pos 0) ∷ []
-    ≡ index half ∷ index (fin true 3 (negsuc 0)) ∷ index nought ∷ no_index ∷ []
+    ≡ Some half ∷ Some (fin true 3 (negsuc 0)) ∷ Some nought ∷ None ∷ []
 unfolding of_int div
 ratio_cases = refl
 
-abbrev three : Index
-three = index (fin false 3 (pos 0))
+abbrev three : Option Float
+three = Some (fin false 3 (pos 0))
 
-pub both_cases : both_of (index half) three ∷ both_of no_index three ∷ both_of three no_index ∷ [] ≡ index (fin false 3 (negsuc 0)) ∷ no_index ∷ no_index ∷ []
+pub both_cases : both_of (Some half) three ∷ both_of None three ∷ both_of three None ∷ [] ≡ Some (fin false 3 (negsuc 0)) ∷ None ∷ None ∷ []
 unfolding mul
 both_cases = refl
 
--- an absent index has a flag of 0 and a value of 0
-pub absent : no_index ≡ record { present = false; value = fin false 0 (pos 0) }
+-- an absent index stands for 0, and one that is there for itself
+pub absent : map or_nought (None ∷ Some half ∷ []) ≡ fin false 0 (pos 0) ∷ half ∷ []
 absent = refl
 
 -- 7 at a performance of 1/2 are 14; they stay 7 where it is absent, 0 or below
-pub rate_cases : map (at_rate_of (pos 7)) (index half ∷ record { present = false; value = half } ∷ index nought ∷ index (fin true 1 (negsuc 0)) ∷ []) ≡ pos 14 ∷ pos 7 ∷ pos 7 ∷ pos 7 ∷ []
+pub rate_cases : map (at_rate_of (pos 7)) (Some half ∷ None ∷ Some nought ∷ Some (fin true 1 (negsuc 0)) ∷ []) ≡ pos 14 ∷ pos 7 ∷ pos 7 ∷ pos 7 ∷ []
 unfolding whole_of rounded of_int div lt
 rate_cases = refl
 

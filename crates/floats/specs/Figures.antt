@@ -1,10 +1,9 @@
 -- Earned value's figures that are worked out in floats. Definitions only.
-use Rattle.std.specs.Prelude.{ℕ, true, false, cond, ◌&&◌, ℤ, pos, to_bits, Float}
+use Rattle.std.specs.Prelude.{ℕ, true, false, cond, ℤ, pos, Option, Some, None, unwrap_or, to_bits, Float}
 use Rattle.std.specs.Float.{fin, binary64}
 use Rattle.std.specs.Float.Ieee.{mul, div, lt}
 use Rattle.integer.specs.Signs.{is_zero}
 use Rattle.floats.specs.Rounding.{nearest_of, whole_of}
-use Rattle.floats.specs.declared.Index.{Index}
 
 -- 0, -0, 1 and 10,000
 abbrev pub nought : Float
@@ -19,23 +18,24 @@ one = fin false 1 (pos 0)
 abbrev pub ten_thousand : Float
 ten_thousand = fin false 625 (pos 4)
 
-abbrev pub no_index : Index
-no_index = record { present = false; value = nought }
-
-abbrev pub index : Float → Index
-index x = record { present = true; value = x }
+-- a figure, 0 where it is absent
+abbrev pub or_nought : Option Float → Float
+or_nought x = unwrap_or x nought
 
 -- a / b, absent where b is 0
-abbrev pub ratio_of : ℤ → ℤ → Index
-ratio_of a b = cond (is_zero b) no_index (index (div binary64 (nearest_of a) (nearest_of b)))
+abbrev pub ratio_of : ℤ → ℤ → Option Float
+ratio_of a b = cond (is_zero b) None (Some (div binary64 (nearest_of a) (nearest_of b)))
 
 -- the product, absent where one is
-abbrev pub both_of : Index → Index → Index
-both_of p q = cond (p.present && q.present) (index (mul binary64 p.value q.value)) no_index
+abbrev pub both_of : Option Float → Option Float → Option Float
+both_of None q = None
+both_of (Some x) None = None
+both_of (Some x) (Some y) = Some (mul binary64 x y)
 
 -- what is left at the performance f; as it is where f is absent or not above 0
-abbrev pub at_rate_of : ℤ → Index → ℤ
-at_rate_of left f = cond (f.present && lt nought f.value) (whole_of (div binary64 (nearest_of left) f.value)) left
+abbrev pub at_rate_of : ℤ → Option Float → ℤ
+at_rate_of left None = left
+at_rate_of left (Some f) = cond (lt nought f) (whole_of (div binary64 (nearest_of left) f)) left
 
 -- x clamped to 0..1; -0 and a NaN stay
 abbrev pub clamp01_of : Float → Float

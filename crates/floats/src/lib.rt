@@ -5,7 +5,7 @@
 ghost use Rattle.std.specs.Prelude.{◌≡◌};
 ghost use Rattle.integer.specs.Linear.{plus};
 ghost use Rattle.floats.specs.Rounding.{nearest_of, whole_of};
-ghost use Rattle.floats.specs.Figures.{no_index, ratio_of, both_of, at_rate_of, clamp01_of, share_of, earned_of, bits_of};
+ghost use Rattle.floats.specs.Figures.{ratio_of, both_of, at_rate_of, clamp01_of, share_of, earned_of, bits_of};
 
 // The f64 nearest to z, ties to even.
 pub fn nearest(z: i64) -> f64
@@ -39,60 +39,31 @@ pub fn whole(x: f64) -> i64
     magnitude(x) as i64
 }
 
-// A figure that may be absent.
-#[derive(Clone, Copy)]
-pub struct Index {
-    pub present: bool,
-    pub value: f64,
-}
-
-fn absent() -> Index
-    ensures { result ≡ no_index }
-{
-    Index {
-        present: false,
-        value: 0.0,
-    }
-}
-
-// The quotient of a and b; absent where b is 0.
-pub fn ratio(a: i64, b: i64) -> Index
+// The quotient of a and b; `None` where b is 0.
+pub fn ratio(a: i64, b: i64) -> Option<f64>
     ensures { result ≡ ratio_of a b }
 {
     if b == 0 {
-        return absent();
+        return None;
     }
-    Index {
-        present: true,
-        value: nearest(a) / nearest(b),
-    }
+    Some(nearest(a) / nearest(b))
 }
 
-// The product of p and q; absent where one is.
-pub fn both(p: Index, q: Index) -> Index
+// The product of p and q; `None` where one is.
+pub fn both(p: Option<f64>, q: Option<f64>) -> Option<f64>
     ensures { result ≡ both_of p q }
 {
-    if p.present {
-        if q.present {
-            return Index {
-                present: true,
-                value: p.value * q.value,
-            };
-        }
-    }
-    absent()
+    Some(p? * q?)
 }
 
 // What is left, at the performance `factor`; as it is where the factor is absent or not above 0.
-pub fn at_rate(left: i64, factor: Index) -> i64
+pub fn at_rate(left: i64, factor: Option<f64>) -> i64
     ensures { result ≡ at_rate_of left factor }
 {
-    if factor.present {
-        if factor.value > 0.0 {
-            return whole(nearest(left) / factor.value);
-        }
+    match factor {
+        Some(f) if f > 0.0 => whole(nearest(left) / f),
+        _ => left,
     }
-    left
 }
 
 // x clamped to 0..1; -0 stays -0.

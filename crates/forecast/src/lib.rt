@@ -10,7 +10,7 @@ ghost use Rattle.answers.specs.Rows.{estimates_row, index_bits, indices_row, for
 
 use answers::{Reply, TOO_SHORT};
 use fields::OptionalNumber;
-use floats::{Index, at_rate, bits, both, ratio};
+use floats::{at_rate, bits, both, ratio};
 use format::EtcTechnique;
 use model::{Earned, Indices};
 use money::sums::{saturating_add, saturating_sub};
@@ -25,21 +25,21 @@ fn to_earn(e: Earned) -> i64
 }
 
 // The cost performance index.
-fn cpi(e: Earned) -> Index
+fn cpi(e: Earned) -> Option<f64>
     ensures { result ≡ definition.cpi e }
 {
     ratio(e.earned, e.actual)
 }
 
 // The schedule performance index.
-fn spi(e: Earned) -> Index
+fn spi(e: Earned) -> Option<f64>
     ensures { result ≡ definition.spi e }
 {
     ratio(e.earned, e.planned)
 }
 
 // The to-complete performance index.
-fn tcpi(e: Earned) -> Index
+fn tcpi(e: Earned) -> Option<f64>
     ensures { result ≡ definition.tcpi e }
 {
     let left = to_earn(e);
@@ -55,12 +55,12 @@ fn indices(e: Earned) -> Indices
     let s = spi(e);
     let t = tcpi(e);
     Indices {
-        cpi: c.value,
-        has_cpi: c.present,
-        spi: s.value,
-        has_spi: s.present,
-        tcpi: t.value,
-        has_tcpi: t.present,
+        cpi: c.unwrap_or(0.0),
+        has_cpi: c.is_some(),
+        spi: s.unwrap_or(0.0),
+        has_spi: s.is_some(),
+        tcpi: t.unwrap_or(0.0),
+        has_tcpi: t.is_some(),
     }
 }
 

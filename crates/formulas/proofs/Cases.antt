@@ -12,7 +12,7 @@ use mir.Val.{SFits}
 use Rattle.lists.specs.Lists.{span}
 use Rattle.money.specs.declared.costs.Cost.{Cost}
 use Rattle.floats.specs.Rounding.{nearest_of, rounded, whole_of}
-use Rattle.floats.specs.Figures.{share_of, earned_of, bits_of}
+use Rattle.floats.specs.Figures.{share_of, earned_of, bits_of, or_nought}
 use Rattle.format.specs.declared.EtcTechnique.TheVariants.{Cpi, CpiSpi}
 use Rattle.format.proofs.Example.{example}
 use Rattle.model.specs.declared.Earned.{Earned}
@@ -51,11 +51,11 @@ indices : NearestIndex (cpi row) (CPI row) × NearestIndex (spi row) (SPI row) �
 indices =
     (cpi_nearest row (not_zero (pos 3) (lit< tt)) (lit≤ tt) (lit≤ tt), spi_nearest row (not_zero (pos 4) (lit< tt)) (lit≤ tt) (lit≤ tt), tcpi_nearest row (not_zero (pos 7) (lit< tt)) (lit≤ tt) (lit≤ tt))
 
-two_thirds : bits_of (cpi row).value ≡ 0x3fe5_5555_5555_5555
+two_thirds : bits_of (or_nought (cpi row)) ≡ 0x3fe5_5555_5555_5555
 unfolding cpi of_int div to_bits
 two_thirds = refl
 
-indices_of_floats : Close 3 9007199254740989 (cpi row).value (CPI row) × Close 3 9007199254740989 (spi row).value (SPI row) × Close 3 9007199254740989 (tcpi row).value (TCPI row)
+indices_of_floats : Close 3 9007199254740989 (or_nought (cpi row)) (CPI row) × Close 3 9007199254740989 (or_nought (spi row)) (SPI row) × Close 3 9007199254740989 (or_nought (tcpi row)) (TCPI row)
 indices_of_floats = (
   (cpi_of_floats row (not_zero (pos 3) (lit< tt)) (fits 2 (lit< tt)) (fits 3 (lit< tt))).1,
   (spi_of_floats row (not_zero (pos 4) (lit< tt)) (fits 2 (lit< tt)) (fits 4 (lit< tt))).1,

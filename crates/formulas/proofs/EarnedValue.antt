@@ -1,4 +1,5 @@
 -- Earned value, against EV = BAC * a / b where a of b is done: by a percent p of 10,000, by units, by minutes. Assumes nothing.
+use Rattle.std.specs.Prelude.{unwrap_or}
 use mathlib.Core.Path.{◌≡◌, refl, sym, ap, ap₂, ◌∙◌, subst}
 use mathlib.Core.Bool.{false}
 use mathlib.Core.Option.{some}
@@ -25,7 +26,7 @@ use Rattle.format.specs.declared.EvTechnique.{EvTechnique}
 use Rattle.format.specs.declared.EvTechnique.TheVariants.{Physical, Duration, Units, FiftyFifty, Custom}
 use Rattle.model.specs.Lookup.{activity_at}
 use Rattle.model.specs.Planned.{budget_of}
-use Rattle.model.specs.Earned.{value_or, by_duration, units_done, units_in_all, performance_by, performance, leaf_earned}
+use Rattle.model.specs.Earned.{by_duration, units_done, units_in_all, performance_by, performance, leaf_earned}
 use Rattle.formulas.specs.Exact.{value, Small, HalfAnd, NearestWhole, AtMostOne}
 use Rattle.formulas.specs.Formulas.{share, EV, UpToLimit}
 use Rattle.formulas.proofs.Errors.{moderate, larger}
@@ -145,14 +146,14 @@ module _ (book : Book) (i : ℕ) (started : (activity_at book i).status ≡ InPr
   by_units_done a b t u w =
       let work = activity_at book i in
       ap₂ (λ (x : EvTechnique) (y : Status). performance_by x y work.percent work.working_minutes work.remaining_minutes (units_done book i) (units_in_all book i)) t started
-      ∙ ap₂ (λ (x y : ℤ). clamp01_of (value_or (ratio_of x y) (by_duration work.working_minutes work.remaining_minutes))) u w
+      ∙ ap₂ (λ (x y : ℤ). clamp01_of (unwrap_or (ratio_of x y) (by_duration work.working_minutes work.remaining_minutes))) u w
 
   pub by_minutes_done : (a b : ℕ) → book.technique ≡ Duration → (activity_at book i).working_minutes ≡ suc b → pos (suc b) -ℤ pos (activity_at book i).remaining_minutes ≡ pos a
       → performance book i ≡ share a (suc b)
   unfolding performance
   by_minutes_done a b t m d =
       rw (t, started)
-      (ap₂ (λ (x : ℤ) (y : ℕ). clamp01_of (value_or (ratio_of x (pos y)) nought)) (ap (λ (y : ℕ). pos y -ℤ pos (activity_at book i).remaining_minutes) m ∙ d) m)
+      (ap₂ (λ (x : ℤ) (y : ℕ). clamp01_of (unwrap_or (ratio_of x (pos y)) nought)) (ap (λ (y : ℕ). pos y -ℤ pos (activity_at book i).remaining_minutes) m ∙ d) m)
 
 -- EV of a leaf: |EV − BAC * a / b| ≤ 1 / 2 + |BAC * a / b| * 2 / (2 ^ 53 − 2)
 pub leaf_earned_half : (book : Book) (date i a b : ℕ) → performance book i ≡ share a b → a ≤ b → 0 < b → b ≤ 2 ^ 53 → Small (budget_of book i) → UpToLimit (EV (budget_of book i) a b)

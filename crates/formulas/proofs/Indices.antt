@@ -1,5 +1,6 @@
 -- CPI, SPI and TCPI are the floats nearest to the quotients of EIA-748 and PMI. Assumes nothing.
 -- For amounts up to 2 ^ 53 they are nearest to the exact quotient. For all numbers of 64 bits each amount is first rounded to its nearest float.
+use Rattle.floats.specs.Figures.{or_nought}
 use mathlib.Core.Path.{◌≡◌}
 use mathlib.Core.Logic.{◌≢◌}
 use Prim.Native.Nat.{◌-◌, ◌^◌}
@@ -44,17 +45,17 @@ module _ (e : Earned) where
 -- ---- for all numbers of 64 bits: nearest to the quotient of the two nearest floats, and at most 3 / (2 ^ 53 − 3) of the exact quotient away from it
 module _ (e : Earned) where
   pub cpi_of_floats : e.actual ≢ pos 0 → SFits w64 e.earned → SFits w64 e.actual
-      → NearestIndex (cpi e) (value (nearest_of e.earned) ÷ value (nearest_of e.actual)) × Close 3 (2 ^ 53 - 3) (cpi e).value (CPI e)
+      → NearestIndex (cpi e) (value (nearest_of e.earned) ÷ value (nearest_of e.actual)) × Close 3 (2 ^ 53 - 3) (or_nought (cpi e)) (CPI e)
   unfolding cpi
   cpi_of_floats some a b = (ratio_nearest e.earned e.actual a b some, ratio_close e.earned e.actual a b some)
 
   pub spi_of_floats : e.planned ≢ pos 0 → SFits w64 e.earned → SFits w64 e.planned
-      → NearestIndex (spi e) (value (nearest_of e.earned) ÷ value (nearest_of e.planned)) × Close 3 (2 ^ 53 - 3) (spi e).value (SPI e)
+      → NearestIndex (spi e) (value (nearest_of e.earned) ÷ value (nearest_of e.planned)) × Close 3 (2 ^ 53 - 3) (or_nought (spi e)) (SPI e)
   unfolding spi
   spi_of_floats some a b = (ratio_nearest e.earned e.planned a b some, ratio_close e.earned e.planned a b some)
 
   pub tcpi_of_floats : e.budget -ℤ e.actual ≢ pos 0 → SFits w64 (e.budget -ℤ e.earned) → SFits w64 (e.budget -ℤ e.actual)
-      → NearestIndex (tcpi e) (value (nearest_of (e.budget -ℤ e.earned)) ÷ value (nearest_of (e.budget -ℤ e.actual))) × Close 3 (2 ^ 53 - 3) (tcpi e).value (TCPI e)
+      → NearestIndex (tcpi e) (value (nearest_of (e.budget -ℤ e.earned)) ÷ value (nearest_of (e.budget -ℤ e.actual))) × Close 3 (2 ^ 53 - 3) (or_nought (tcpi e)) (TCPI e)
   unfolding tcpi to_earn
   tcpi_of_floats some a b =
       let to_earn = e.budget -ℤ e.earned in

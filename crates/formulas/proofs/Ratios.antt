@@ -1,5 +1,6 @@
 -- A ratio of two numbers of 64 bits: the float nearest to the quotient of their nearest floats, and up to 2 ^ 53, where a number is its own nearest float, to the
 -- quotient itself. Assumes nothing.
+use Rattle.std.specs.Prelude.{is_some}
 use mathlib.Core.Path.{◌≡◌, refl, ap₂, ◌∙◌, subst}
 use mathlib.Core.Bool.{Bool, true, false}
 use mathlib.Core.Logic.{◌≢◌}
@@ -14,7 +15,7 @@ use mir.Syntax.{w64}
 use mir.Val.{SFits}
 use Rattle.integer.specs.Signs.{negative, is_zero}
 use Rattle.floats.specs.Rounding.{nearest_of}
-use Rattle.floats.specs.Figures.{ratio_of}
+use Rattle.floats.specs.Figures.{ratio_of, or_nought}
 use Rattle.formulas.specs.Exact.{Fraction, quotient, integer, value, ◌÷◌, gap, Small, NearestFloat, Close, NearestIndex}
 use Rattle.formulas.proofs.Distance.{distance, same_sign}
 use Rattle.formulas.proofs.Errors.{Moderate, moderate, larger, moderate_near, quotient as divided}
@@ -35,10 +36,10 @@ size_pos (negsuc n) h = zero-lt-suc n
 pub not_zero : (b : ℤ) → 0 < nat_abs b → b ≢ pos 0
 not_zero b h e = lt_irrefl 0 (subst (λ (z : ℤ). 0 < nat_abs z) e h)
 
-pub ratio_present : (a b : ℤ) → b ≢ pos 0 → (ratio_of a b).present ≡ true
+pub ratio_present : (a b : ℤ) → b ≢ pos 0 → is_some (ratio_of a b) ≡ true
 ratio_present a b h = rw (nonzero b h)
 
-ratio_is : (a b : ℤ) → b ≢ pos 0 → (ratio_of a b).value ≡ div binary64 (nearest_of a) (nearest_of b)
+ratio_is : (a b : ℤ) → b ≢ pos 0 → or_nought (ratio_of a b) ≡ div binary64 (nearest_of a) (nearest_of b)
 ratio_is a b h = rw (nonzero b h)
 
 -- ---- the float of an amount is the one nearest to it, and up to 2 ^ 53 the amount itself
@@ -83,7 +84,7 @@ module _ (a b : ℤ) (fa : SFits w64 a) (fb : SFits w64 b) (some : b ≢ pos 0) 
   fine : Moderate range (x ÷ y).over (x ÷ y).under
   fine = moderate_near (mul-pos (size_pos b some) (lit< tt)) (lit< tt) (lit≤ tt) (divided v.ratio w.ratio) exact_range
 
-  rounds : (ratio_of a b).value ≡ round binary64 (x ÷ y).sign (x ÷ y).over (x ÷ y).under
+  rounds : or_nought (ratio_of a b) ≡ round binary64 (x ÷ y).sign (x ÷ y).over (x ÷ y).under
   rounds =
       ratio_is a b some
       ∙ div_at (nearest_of a) (nearest_of b) x.sign y.sign x.over x.under y.over y.under (under_pos (nearest_of a) v.number) (over_pos (lit< tt) (size_pos b some) w)
@@ -98,7 +99,7 @@ module _ (a b : ℤ) (fa : SFits w64 a) (fb : SFits w64 b) (some : b ≢ pos 0) 
   }
 
   -- and of three roundings: |x − a / b| ≤ |a / b| * 3 / (2 ^ 53 − 3)
-  pub ratio_within : Within (2 ^ 53 - 3) (ratio_of a b).value (quotient a b).sign (nat_abs a) (nat_abs b)
+  pub ratio_within : Within (2 ^ 53 - 3) (or_nought (ratio_of a b)) (quotient a b).sign (nat_abs a) (nat_abs b)
   ratio_within =
       rw (ratio_is a b some)
       (subst (λ (n : ℕ). Within (2 ^ 53 - 3) (div binary64 (nearest_of a) (nearest_of b)) (quotient a b).sign n (nat_abs b)) (mul-one (nat_abs a))
@@ -106,12 +107,12 @@ module _ (a b : ℤ) (fa : SFits w64 a) (fb : SFits w64 b) (some : b ≢ pos 0) 
       (div_within (nearest_of a) (nearest_of b) (negative a) (negative b) (nat_abs a) 1 (nat_abs b) 1 (2 ^ 53 - 1) (2 ^ 53 - 1) (2 ^ 53 - 3) (lit< tt) (size_pos b some) (one_more tt tt)
       exact_range v w)))
 
-  pub ratio_close : Close 3 (2 ^ 53 - 3) (ratio_of a b).value (quotient a b)
-  ratio_close = within_close (ratio_of a b).value (quotient a b).sign (nat_abs a) (nat_abs b) (2 ^ 53 - 3) 3 refl ratio_within
+  pub ratio_close : Close 3 (2 ^ 53 - 3) (or_nought (ratio_of a b)) (quotient a b)
+  ratio_close = within_close (or_nought (ratio_of a b)) (quotient a b).sign (nat_abs a) (nat_abs b) (2 ^ 53 - 3) 3 refl ratio_within
 
 -- ---- up to 2 ^ 53
 module _ (a b : ℤ) (some : b ≢ pos 0) (sa : Small a) (sb : Small b) where
-  pub small_ratio : (ratio_of a b).value ≡ round binary64 (unlike (negative a) (negative b)) (nat_abs a) (nat_abs b)
+  pub small_ratio : or_nought (ratio_of a b) ≡ round binary64 (unlike (negative a) (negative b)) (nat_abs a) (nat_abs b)
   small_ratio =
       ratio_is a b some
       ∙ div_at (nearest_of a) (nearest_of b) (negative a) (negative b) (nat_abs a) 1 (nat_abs b) 1 (lit< tt) (size_pos b some) (exact a sa) (exact b sb)
@@ -128,5 +129,5 @@ module _ (a b : ℤ) (some : b ≢ pos 0) (sa : Small a) (sb : Small b) where
     close = rw small_ratio (round_close (unlike (negative a) (negative b)) (nat_abs a) (nat_abs b) (size_pos b some) small);
   }
 
-  pub small_ratio_within : Within (2 ^ 53 - 1) (ratio_of a b).value (quotient a b).sign (nat_abs a) (nat_abs b)
+  pub small_ratio_within : Within (2 ^ 53 - 1) (or_nought (ratio_of a b)) (quotient a b).sign (nat_abs a) (nat_abs b)
   small_ratio_within = rw small_ratio (round_within (unlike (negative a) (negative b)) (nat_abs a) (nat_abs b) (size_pos b some) small)

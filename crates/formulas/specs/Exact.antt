@@ -1,12 +1,11 @@
 -- Exact numbers, and how near a figure is to one. Definitions only.
 -- Every comparison of fractions is one of whole numbers: both sides times all divisors.
-use Rattle.std.specs.Prelude.{ℕ, ◌+◌, ◌*◌, ◌%◌, ◌^◌, ◌≤◌, ◌<◌, ◌≡◌, Bool, true, T, ℤ, pos, nat_abs, ◌-ℤ◌, Float}
+use Rattle.std.specs.Prelude.{ℕ, ◌+◌, ◌*◌, ◌%◌, ◌^◌, ◌≤◌, ◌<◌, ◌≡◌, Bool, true, T, ℤ, pos, nat_abs, ◌-ℤ◌, Float, Option, is_some}
 use Rattle.std.specs.Float.{nan, inf, fin, binary64}
 use Rattle.std.specs.Float.Ieee.{up, down, unlike, fits}
 use Rattle.std.specs.Float.Ieee.Scale.{finite}
 use Rattle.integer.specs.Signs.{negative, with_sign}
-use Rattle.floats.specs.declared.Index.{Index}
-use Rattle.floats.specs.Figures.{bits_of}
+use Rattle.floats.specs.Figures.{bits_of, or_nought}
 
 -- ---- fractions
 
@@ -63,10 +62,10 @@ abbrev pub Close : ℕ → ℕ → Float → Fraction → Type 0
 Close r d x f = gap (value x) f * d ≤ f.over * (value x).under * r
 
 -- an index that is there, and is the float nearest to f; so it is at most 2 ^ -53 of f away
-pub record NearestIndex (x : Index) (f : Fraction) : Type 0 where
-  pub present : x.present ≡ true
-  pub nearest : NearestFloat x.value f
-  pub close : Close 1 (2 ^ 53) x.value f
+pub record NearestIndex (x : Option Float) (f : Fraction) : Type 0 where
+  pub present : is_some x ≡ true
+  pub nearest : NearestFloat (or_nought x) f
+  pub close : Close 1 (2 ^ 53) (or_nought x) f
 
 -- z is at most a half and r / d of f away from f: |z − f| ≤ 1 / 2 + |f| * r / d
 abbrev pub HalfAnd : ℕ → ℕ → ℤ → Fraction → Type 0

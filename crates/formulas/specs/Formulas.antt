@@ -1,7 +1,7 @@
 -- The formulas of EIA-748 and PMI as exact numbers, from the figures of a row: BAC is `budget`, PV `planned`, EV `earned`, AC `actual`. Definitions only.
 use Rattle.std.specs.Prelude.{ℕ, ◌*◌, ◌≤◌, ◌<◌, ◌≡◌, false, ℤ, pos, ◌-ℤ◌, Float}
 use Rattle.floats.specs.Rounding.{limit}
-use Rattle.floats.specs.Figures.{ratio_of, clamp01_of}
+use Rattle.floats.specs.Figures.{ratio_of, clamp01_of, or_nought}
 use Rattle.model.specs.declared.Earned.{Earned}
 use Rattle.formulas.specs.Exact.{Fraction, quotient, integer, ◌÷◌, times}
 
@@ -31,7 +31,7 @@ EV budget a b = times (integer budget) (quotient (pos a) (pos b))
 
 -- a / b as the float that the engine multiplies the budget by
 abbrev pub share : ℕ → ℕ → Float
-share a b = clamp01_of (ratio_of (pos a) (pos b)).value
+share a b = clamp01_of (or_nought (ratio_of (pos a) (pos b)))
 
 -- ---- conditions
 

@@ -13,7 +13,6 @@ use Rattle.money.specs.declared.costs.Cost.{Cost}
 use Rattle.money.specs.Scale.{in_range, scaled_by}
 use Rattle.money.specs.Shares.{share_of, shares_from}
 use Rattle.floats.specs.Rounding.{whole_of}
-use Rattle.floats.specs.Figures.{index}
 use Rattle.gregorian.specs.Count.{between, counted, signed}
 use Rattle.gregorian.specs.Calendar.{is_leap, leap_day, month_length, days_to_month, is_date, day_number}
 use Rattle.gregorian.proofs.Leap.{is_closed}
@@ -80,7 +79,7 @@ own_calendar first second book listed a = (λ e. rw (e, listed), λ e. rw (e, li
 
 -- ---- of a budget of 100 with 20 earned, 80 are to be earned with the 40 that are not spent
 
-pub to_complete : tcpi (record { budget = pos 100; planned = pos 50; earned = pos 20; actual = pos 60; remaining = pos 0 }) ≡ index (fin false 1 (pos 1))
+pub to_complete : tcpi (record { budget = pos 100; planned = pos 50; earned = pos 20; actual = pos 60; remaining = pos 0 }) ≡ Some (fin false 1 (pos 1))
 unfolding tcpi to_earn of_int div
 to_complete = refl
 

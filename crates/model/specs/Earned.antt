@@ -1,5 +1,5 @@
 -- Earned value: how much of an activity is done, by the book's technique, and what that is worth of its budget.
-use Rattle.std.specs.Prelude.{ℕ, false, cond, ℤ, pos, negsuc, ◌+ℤ◌, ◌-ℤ◌, Float}
+use Rattle.std.specs.Prelude.{ℕ, false, cond, ℤ, pos, negsuc, ◌+ℤ◌, ◌-ℤ◌, Float, unwrap_or}
 use mathlib.Core.List.{List, [], ◌∷◌, map, flat_map, foldl}
 use Rattle.std.proofs.Math.Option.{Option, get_or}
 use Rattle.std.specs.Float.{fin}
@@ -7,7 +7,6 @@ use Rattle.std.specs.Int.{w64}
 use Rattle.integer.specs.Clamp.{clamp}
 use Rattle.integer.specs.Folds.{saturated}
 use Rattle.money.specs.Scale.{spent_of}
-use Rattle.floats.specs.declared.Index.{Index}
 use Rattle.floats.specs.Figures.{nought, one, ratio_of, clamp01_of, share_of, earned_of}
 use Rattle.format.specs.declared.Status.{Status}
 use Rattle.format.specs.declared.Status.TheVariants.{NotStarted, InProgress, Completed}
@@ -25,20 +24,17 @@ use Rattle.model.specs.Planned.{budget_of, planned_on}
 abbrev pub half : Float
 half = fin false 1 (negsuc 0)
 
-abbrev pub value_or : Index → Float → Float
-value_or x y = cond x.present x.value y
-
 -- the percent complete that was judged; 0 without one
 abbrev pub by_percent : Option ℤ → Float
 by_percent percent = share_of (get_or percent (pos 0))
 
 -- the minutes worked, of all; 0 where there are none
 abbrev pub by_duration : ℕ → ℕ → Float
-by_duration working remaining = value_or (ratio_of (pos working -ℤ pos remaining) (pos working)) nought
+by_duration working remaining = unwrap_or (ratio_of (pos working -ℤ pos remaining) (pos working)) nought
 
 -- the units done, of all; by duration where there are none
 abbrev pub byUnits : ℤ → ℤ → ℕ → ℕ → Float
-byUnits done all working remaining = value_or (ratio_of done all) (by_duration working remaining)
+byUnits done all working remaining = unwrap_or (ratio_of done all) (by_duration working remaining)
 
 -- what counts before the work is marked started: a percent that was judged, and nothing else
 abbrev pub unstarted : EvTechnique → Option ℤ → Float

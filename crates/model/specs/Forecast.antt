@@ -1,9 +1,8 @@
 -- Forecasts and indices: how the work done performs, and what the work still to do will cost (EIA-748, PMI), from the figures of a row.
-use Rattle.std.specs.Prelude.{ℤ, ◌+ℤ◌, ◌-ℤ◌}
+use Rattle.std.specs.Prelude.{ℤ, ◌+ℤ◌, ◌-ℤ◌, Option, is_some, Float}
 use Rattle.std.specs.Int.{w64}
 use Rattle.integer.specs.Clamp.{clamp}
-use Rattle.floats.specs.declared.Index.{Index}
-use Rattle.floats.specs.Figures.{ratio_of, both_of, at_rate_of}
+use Rattle.floats.specs.Figures.{ratio_of, both_of, at_rate_of, or_nought}
 use Rattle.format.specs.declared.EtcTechnique.{EtcTechnique}
 use Rattle.format.specs.declared.EtcTechnique.TheVariants.{Remaining, Planned, Cpi, CpiSpi}
 use Rattle.model.specs.declared.Earned.{Earned}
@@ -16,11 +15,11 @@ less a b = clamp w64 (a -ℤ b)
 -- ---- indices, each absent where its divisor is 0
 
 -- the cost performance index (CPI): EV / AC
-unfoldable pub cpi : Earned → Index
+unfoldable pub cpi : Earned → Option Float
 cpi e = ratio_of e.earned e.actual
 
 -- the schedule performance index (SPI): EV / PV
-unfoldable pub spi : Earned → Index
+unfoldable pub spi : Earned → Option Float
 spi e = ratio_of e.earned e.planned
 
 -- the budget still to earn: BAC − EV
@@ -28,18 +27,18 @@ unfoldable pub to_earn : Earned → ℤ
 to_earn e = less e.budget e.earned
 
 -- the to-complete performance index (TCPI): (BAC − EV) / (BAC − AC)
-unfoldable pub tcpi : Earned → Index
+unfoldable pub tcpi : Earned → Option Float
 tcpi e = ratio_of (to_earn e) (less e.budget e.actual)
 
 -- document 01's three indices, which travel together
 unfoldable pub indices_of : Earned → Indices
 indices_of e = record {
-  cpi = (cpi e).value;
-  has_cpi = (cpi e).present;
-  spi = (spi e).value;
-  has_spi = (spi e).present;
-  tcpi = (tcpi e).value;
-  has_tcpi = (tcpi e).present;
+  cpi = or_nought (cpi e);
+  has_cpi = is_some (cpi e);
+  spi = or_nought (spi e);
+  has_spi = is_some (spi e);
+  tcpi = or_nought (tcpi e);
+  has_tcpi = is_some (tcpi e);
 }
 
 -- ---- forecasts

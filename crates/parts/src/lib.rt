@@ -11,7 +11,7 @@ ghost use Rattle.integer.specs.Sums.{ints, sum};
 ghost use Rattle.money.specs.Scale.{priced_at, spent_of};
 ghost use Rattle.money.specs.Shares.{share_of};
 ghost use Rattle.floats.specs.Rounding.{whole_of};
-ghost use Rattle.floats.specs.Figures.{ratio_of, earned_of};
+ghost use Rattle.floats.specs.Figures.{or_nought, ratio_of, earned_of};
 ghost use Rattle.dates.specs.Date.{from_ymd, ymd_of, weekday_of};
 ghost use Rattle.computus.specs.Easter.{easter_of};
 ghost use Rattle.holidays.specs.Holiday.{is_holiday};
@@ -89,10 +89,9 @@ pub extern "C" fn parts_whole(x: f64) -> i64
 
 #[unsafe(no_mangle)]
 pub extern "C" fn parts_ratio(a: i64, b: i64) -> f64
-    ensures { result ≡ (ratio_of a b).value }
+    ensures { result ≡ or_nought (ratio_of a b) }
 {
-    let i = floats::ratio(a, b);
-    i.value
+    floats::ratio(a, b).unwrap_or(0.0)
 }
 
 #[unsafe(no_mangle)]

@@ -14,25 +14,16 @@ fn float(u: u64) -> f64 {
     f64::from_bits(u)
 }
 
-fn index(i: floats::Index) -> Answer {
-    if i.present {
-        return two(1, floats::bits(i.value));
+fn index(i: Option<f64>) -> Answer {
+    match i {
+        Some(x) => two(1, floats::bits(x)),
+        None => two(0, 0),
     }
-    two(0, 0)
 }
 
 // The product of two floats that are there.
 fn product(x: f64, y: f64) -> f64 {
-    let p = floats::Index {
-        present: true,
-        value: x,
-    };
-    let q = floats::Index {
-        present: true,
-        value: y,
-    };
-    let r = floats::both(p, q);
-    r.value
+    floats::both(Some(x), Some(y)).unwrap_or(0.0)
 }
 
 pub fn answer(name: &[u8], x: [u64; 16]) -> Answer {

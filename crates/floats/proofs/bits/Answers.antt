@@ -1,5 +1,5 @@
 -- `floats::bits` meets its contract: only a NaN differs from itself. Assumes nothing.
-use Rattle.std.proofs.Common.{◌≡◌, false, not, T, sym, ap, true≢false, rules}
+use Rattle.std.proofs.Common.{◌≡◌, false, not, T, sym, ap, true≢false}
 use denote.Floats.{passes}
 use lib.Ieee.{Float, nan, inf, fin, to_bits, ne, is_nan}
 use lib.Ieee.Compare.{differs_from_itself}

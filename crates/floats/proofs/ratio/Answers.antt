@@ -4,7 +4,7 @@ use Rattle.integer.specs.Signs.{zero_bits, nonzero_bits}
 use Rattle.floats.proofs.ratio.Goals as goal
 
 pub returns-then-b-eq0 : goal.returns-then-b-eq0
-returns-then-b-eq0 c = rw (zero_bits c.args.b c.ranges.b c.if-b-eq0.true) c.absent.ensures
+returns-then-b-eq0 c = rw (zero_bits c.args.b c.ranges.b c.if-b-eq0.true)
 
 pub returns : goal.returns
 returns c =

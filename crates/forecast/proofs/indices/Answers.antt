@@ -1,4 +1,6 @@
 -- `indices` meets its contract, index by index.
+use Rattle.std.specs.Prelude.{is_some}
+use Rattle.floats.specs.Figures.{or_nought}
 use borrow.Author.Rules.{rules}
 use Rattle.model.specs.Forecast.{indices_of}
 use Rattle.forecast.proofs.indices.Goals as goal
@@ -10,10 +12,10 @@ returns c =
     let q = c.spi-s.ensures in
     let r = c.tcpi-t.ensures in
     λ i. record {
-      cpi = (p i).value;
-      has_cpi = (p i).present;
-      spi = (q i).value;
-      has_spi = (q i).present;
-      tcpi = (r i).value;
-      has_tcpi = (r i).present;
+      cpi = or_nought (p i);
+      has_cpi = is_some (p i);
+      spi = or_nought (q i);
+      has_spi = is_some (q i);
+      tcpi = or_nought (r i);
+      has_tcpi = is_some (r i);
     }
