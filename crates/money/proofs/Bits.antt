@@ -1,7 +1,9 @@
 -- Two's complement: each way inverts the other, and what `omega` reads of it. Assumes nothing.
-use Rattle.std.proofs.Common.{◌≡◌, ℕ, suc, ◌+◌, ◌-◌, ◌^◌, ◌<◌, ◌≤◌, Bool, cond, ℤ, pos, negsuc, refl, ap, ◌∙◌, arith, w64, SFits, le-ltb, lt-ltb}
+use Rattle.std.proofs.Common.{◌≡◌, ℕ, suc, ◌+◌, ◌-◌, ◌^◌, ◌<◌, ◌≤◌, Bool, cond, ℤ, pos, negsuc, refl, ap, ◌∙◌, arith, w64, SFits, to_z, of_z, le-ltb, lt-ltb}
 use native.Mathlib.Decide.{dec_lt}
 use Rattle.integer.specs.Linear.{plus, minus}
+use Rattle.std.specs.Int.{saturate_signed}
+use Rattle.integer.specs.Clamp.{clamp}
 use Rattle.money.specs.Words.{bits, of_bits}
 
 pub low : (n : ℕ) → n < 2 ^ 63 → of_bits n ≡ pos n
@@ -20,6 +22,18 @@ back_and_there n h = go (dec_lt n (2 ^ 63))
     go : Dec (n < 2 ^ 63) → bits (of_bits n) ≡ n
     go (yes k) = ap bits (low n k)
     go (no k) = ap bits (high n (omega arith)) ∙ omega arith
+
+-- std's casts and its clamp
+pub cast_bits : (z : ℤ) → of_z w64 z ≡ bits z
+cast_bits (pos n) = refl
+cast_bits (negsuc n) = refl
+
+pub cast_of_bits : (n : ℕ) → to_z w64 n ≡ of_bits n
+cast_of_bits n = refl
+
+pub saturates : (z : ℤ) → saturate_signed w64 z ≡ clamp w64 z
+saturates (pos n) = refl
+saturates (negsuc n) = refl
 
 pub bits_pos : (z : ℤ) → minus z ≡ 0 → bits z ≡ plus z
 bits_pos (pos n) h = refl

@@ -1,6 +1,5 @@
 -- What no law fixes: the definitions on small numbers and at the ends of 64 bits, by computation. Assumes nothing.
-use Rattle.std.proofs.Common.{◌≡◌, ℕ, Bool, true, false, List, [], ◌∷◌, map, ℤ, pos, negsuc, refl}
-use mathlib.Core.Option.{Option, none, some}
+use Rattle.std.proofs.Common.{Option, Some, None, ◌≡◌, ℕ, Bool, true, false, List, [], ◌∷◌, map, ℤ, pos, negsuc, refl}
 use Rattle.money.specs.declared.costs.Cost.{Cost}
 use Rattle.money.specs.declared.exact.Exact.{Exact}
 use Rattle.money.specs.Words.{bits, of_bits}
@@ -81,26 +80,26 @@ priced_case = refl
 -- what is spent, the budget, the share of it
 abbrev shares_spent : List (ℤ × ℤ × Option ℤ)
 shares_spent =
-    (pos 1, pos 3, some (pos 3333))
+    (pos 1, pos 3, Some (pos 3333))
     -- toward zero, whatever the signs
-    ∷ (negsuc 0, pos 3, some (negsuc 3332))
-    ∷ (pos 1, negsuc 2, some (negsuc 3332))
+    ∷ (negsuc 0, pos 3, Some (negsuc 3332))
+    ∷ (pos 1, negsuc 2, Some (negsuc 3332))
     -- nothing of a budget, and less than a hundredth of a percent of it: a share of 0
-    ∷ (pos 0, pos 5, some (pos 0))
-    ∷ (pos 1, pos 20000, some (pos 0))
+    ∷ (pos 0, pos 5, Some (pos 0))
+    ∷ (pos 1, pos 20000, Some (pos 0))
     -- no budget, whatever is spent: no share
-    ∷ (pos 0, pos 0, none)
-    ∷ (pos 700, pos 0, none)
-    ∷ (negsuc 0, pos 0, none)
+    ∷ (pos 0, pos 0, None)
+    ∷ (pos 700, pos 0, None)
+    ∷ (negsuc 0, pos 0, None)
     -- `spent_signs`: beyond either end of 64 bits
-    ∷ (negsuc 0x7fff_ffff_ffff_fffe, pos 1, some min)
-    ∷ (max, negsuc 0, some min)
-    ∷ (negsuc 0x7fff_ffff_ffff_fffe, negsuc 0, some max)
-    ∷ (max, pos 1, some max)
+    ∷ (negsuc 0x7fff_ffff_ffff_fffe, pos 1, Some min)
+    ∷ (max, negsuc 0, Some min)
+    ∷ (negsuc 0x7fff_ffff_ffff_fffe, negsuc 0, Some max)
+    ∷ (max, pos 1, Some max)
     -- and −2^63 itself, spent and as a budget
-    ∷ (min, pos 10000, some min)
-    ∷ (min, min, some (pos 10000))
-    ∷ (pos 1, min, some (pos 0))
+    ∷ (min, pos 10000, Some min)
+    ∷ (min, min, Some (pos 10000))
+    ∷ (pos 1, min, Some (pos 0))
     ∷ []
 
 pub spent_cases : map (λ (q : ℤ × ℤ × Option ℤ). spent_of q.0 q.1) shares_spent ≡ map (λ (q : ℤ × ℤ × Option ℤ). q.2) shares_spent

@@ -1,18 +1,7 @@
-ghost use Rattle.std.specs.Prelude.{◌≡◌, FitsSigned, unsigned_abs};
+ghost use Rattle.std.specs.Prelude.{◌≡◌, FitsSigned};
 ghost use Rattle.std.specs.Int.{w64};
 ghost use Rattle.integer.specs.Signs.{with_sign};
 ghost use Rattle.money.specs.Words.{bits, of_bits};
-
-// A number without its sign.
-pub fn magnitude(x: i64) -> u64
-    ensures { result ≡ unsigned_abs x }
-{
-    if x < 0 {
-        ((-1 - x) as u64) + 1
-    } else {
-        x as u64
-    }
-}
 
 // −m where negative is set, else m.
 pub fn with_sign(negative: bool, m: u64) -> i64
@@ -30,21 +19,12 @@ pub fn with_sign(negative: bool, m: u64) -> i64
 pub fn to_bits(x: i64) -> u64
     ensures { result ≡ bits x }
 {
-    let m = magnitude(x);
-    if x < 0 {
-        18446744073709551615 - m + 1
-    } else {
-        m
-    }
+    x.cast_unsigned()
 }
 
 // The signed number of which u is the two's complement.
 pub fn from_bits(u: u64) -> i64
     ensures { result ≡ of_bits u }
 {
-    if u < 9223372036854775808 {
-        u as i64
-    } else {
-        -1 - ((18446744073709551615 - u) as i64)
-    }
+    u.cast_signed()
 }

@@ -3,20 +3,11 @@ ghost use Rattle.wide.specs.Words.{half, word, Divided, Factor};
 
 use crate::words::{HALF, product};
 
-// The largest number of 64 bits.
-const MOST: u64 = 18446744073709551615;
-
 // A digit of a quotient, 32 bits of it, and what is left to divide.
 #[derive(Clone, Copy)]
 struct Part {
     pub digit: u64,
     pub rest: u64,
-}
-
-fn least(x: u64, y: u64) -> u64
-    ensures { result ≡ min x y }
-{
-    if x < y { x } else { y }
 }
 
 // rest * 2^32 + next by d. The first guess at the digit, by the high half of d, is never too small. It leaves `left` of
@@ -29,7 +20,7 @@ fn step(rest: u64, next: u64, d: u64) -> Part
     let high = d / HALF;
     let low = d % HALF;
     let gap = HALF - 1 - next;
-    let mut q = least(rest / high, HALF - 1);
+    let mut q = (rest / high).min(HALF - 1);
     let mut left = rest - q * high;
     while left < (q * low + gap) / HALF {
         q -= 1;
@@ -47,7 +38,7 @@ fn factor(d: u64) -> u64
     requires { 0 < d }
     ensures { Factor d result }
 {
-    1 << u64::leading_zeros(d)
+    1 << d.leading_zeros()
 }
 
 // high * 2^64 + low by d, whose quotient fits a word since high is below d: two digits of 32 bits.
@@ -86,7 +77,7 @@ pub fn mul_div(u: u64, v: u64, d: u64) -> u64
         return p.low / d;
     }
     if d <= p.high {
-        return MOST;
+        return u64::MAX;
     }
     if d < HALF {
         return by_half(p.high, p.low, d);

@@ -5,7 +5,7 @@ use Rattle.wide.specs.Words.{half, word, Divided}
 use Rattle.wide.proofs.Halves.{short}
 use Rattle.wide.proofs.Digits.{taken, remains, first_fits, first_guess, positive, next_guess, last_guess}
 use Rattle.wide.proofs.division.step.Goals as goal
-use Rattle.wide.proofs.division.step.Goals.{After-least-q, After-loop-left, At-loop-left}
+use Rattle.wide.proofs.division.step.Goals.{After-min-q, After-loop-left, At-loop-left}
 
 pub overflow_sub-gap : goal.overflow_sub-gap
 overflow_sub-gap c = omega arith
@@ -16,22 +16,22 @@ overflow_sub-gap-2 c = omega arith
 pub nonzero_div-rest : goal.nonzero_div-rest
 nonzero_div-rest c = omega arith
 
-pub overflow_sub-least : goal.overflow_sub-least
-overflow_sub-least c = omega arith
+pub overflow_sub-min : goal.overflow_sub-min
+overflow_sub-min c = omega arith
 
-fits : (c : After-least-q) → c.least-q.result * (c.args.d / half) ≤ c.args.rest
+fits : (c : After-min-q) → c.min-q.result * (c.args.d / half) ≤ c.args.rest
 fits c =
-    first_fits c.args.rest c.args.next c.args.d c.requires.0 c.requires.1.0 c.requires.1.1 c.least-q.result (omega (arith, c.least-q.ensures))
+    first_fits c.args.rest c.args.next c.args.d c.requires.0 c.requires.1.0 c.requires.1.1 c.min-q.result (omega (arith, c.min-q.ensures))
 
 pub overflow_mul-left : goal.overflow_mul-left
-overflow_mul-left c = omega (arith, fits (goal.at.overflow_mul-left c).After-least-q)
+overflow_mul-left c = omega (arith, fits (goal.at.overflow_mul-left c).After-min-q)
 
 pub overflow_sub-left : goal.overflow_sub-left
-overflow_sub-left c = omega (arith, fits (goal.at.overflow_sub-left c).After-least-q)
+overflow_sub-left c = omega (arith, fits (goal.at.overflow_sub-left c).After-min-q)
 
 pub loop-left-init : goal.loop-left-init
 loop-left-init c =
-    first_guess c.args.rest c.args.next c.args.d c.requires.0 c.requires.1.0 c.requires.1.1 c.least-q.result (omega (arith, c.least-q.ensures))
+    first_guess c.args.rest c.args.next c.args.d c.requires.0 c.requires.1.0 c.requires.1.1 c.min-q.result (omega (arith, c.min-q.ensures))
 
 -- the low half of d, taken q times
 low_fits : (c : At-loop-left) → taken c.args.next c.args.d c.loop-left.q < word
