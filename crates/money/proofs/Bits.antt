@@ -1,9 +1,10 @@
 -- Two's complement: each way inverts the other, and what `omega` reads of it. Assumes nothing.
-use Rattle.std.proofs.Common.{◌≡◌, ℕ, suc, ◌+◌, ◌-◌, ◌^◌, ◌<◌, ◌≤◌, Bool, cond, ℤ, pos, negsuc, refl, ap, ◌∙◌, arith, w64, SFits, to_z, of_z, le-ltb, lt-ltb}
+use Rattle.std.proofs.Common.{◌≡◌, ℕ, zero, suc, ◌+◌, ◌-◌, ◌%◌, ◌^◌, ◌<◌, ◌≤◌, Bool, true, cond, ℤ, pos, negsuc, refl, ap, ◌∙◌, arith, w64, SFits, to_z, of_z, le-ltb, lt-ltb}
 use native.Mathlib.Decide.{dec_lt}
 use Rattle.integer.specs.Linear.{plus, minus}
 use Rattle.std.specs.Int.{saturate_signed}
 use Rattle.integer.specs.Clamp.{clamp}
+use Rattle.integer.specs.Signs.{with_sign}
 use Rattle.money.specs.Words.{bits, of_bits}
 
 pub low : (n : ℕ) → n < 2 ^ 63 → of_bits n ≡ pos n
@@ -30,6 +31,13 @@ cast_bits (negsuc n) = refl
 
 pub cast_of_bits : (n : ℕ) → to_z w64 n ≡ of_bits n
 cast_of_bits n = refl
+
+-- a negative number as code makes it: the magnitude's cast, turned
+pub turned : (m : ℕ) → SFits w64 (with_sign true m) → to_z w64 ((2 ^ 64 - m) % 2 ^ 64) ≡ with_sign true m
+turned zero h = refl
+turned (suc k) h =
+    let same : (2 ^ 64 - suc k) % 2 ^ 64 ≡ 2 ^ 64 - suc k = omega (arith, h.sfits) in
+    ap (to_z w64) same ∙ there_and_back (negsuc k) h
 
 pub saturates : (z : ℤ) → saturate_signed w64 z ≡ clamp w64 z
 saturates (pos n) = refl

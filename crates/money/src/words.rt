@@ -8,11 +8,8 @@ pub fn with_sign(negative: bool, m: u64) -> i64
     requires { FitsSigned w64 (with_sign negative m) }
     ensures { result ≡ with_sign negative m }
 {
-    if negative {
-        if m == 0 { 0 } else { -1 - ((m - 1) as i64) }
-    } else {
-        m as i64
-    }
+    let z = m.cast_signed();
+    if negative { z.wrapping_neg() } else { z }
 }
 
 // A signed number in two's complement.

@@ -1,25 +1,21 @@
 -- `with_sign` meets its contract: what it asks says that the sign and the magnitude fit. Assumes nothing.
-use Rattle.std.proofs.Common.{◌-◌, negsuc, w64, to_z}
-use Rattle.integer.specs.Linear.{linear, within, dif}
-use Rattle.integer.specs.Signs.{when_neg, when_pos}
+use Rattle.std.proofs.Common.{◌-◌, ◌%◌, ◌^◌, ℕ, ap, ◌∙◌, w64, to_z, to_z-of_z}
+use Rattle.std.proofs.Math.Facts.{of_z-to_z}
+use Rattle.std.specs.Int.{int_wrapping_neg}
+use Rattle.money.proofs.Bits.{turned, low}
 use Rattle.money.proofs.words.with_sign.Goals as goal
 
-pub overflow_cast-result : goal.overflow_cast-result
-overflow_cast-result c = omega (linear, when_neg c.if-negative.true c.args.m, within c.requires)
-
-pub overflow_sub-result-else-m-eq0 : goal.overflow_sub-result-else-m-eq0
-overflow_sub-result-else-m-eq0 c =
-    omega (linear, when_neg c.if-negative.true c.args.m, within c.requires, within (overflow_cast-result c), dif (negsuc 0) (to_z w64 (c.args.m - 1)))
-
-pub overflow_cast-result-else-negative : goal.overflow_cast-result-else-negative
-overflow_cast-result-else-negative c = omega (linear, when_pos c.if-negative.false c.args.m, within c.requires)
-
-pub returns-then-m-eq0 : goal.returns-then-m-eq0
-returns-then-m-eq0 c = omega (linear, when_neg c.if-negative.true c.args.m)
-
-pub returns-else-m-eq0 : goal.returns-else-m-eq0
-returns-else-m-eq0 c =
-    omega (linear, when_neg c.if-negative.true c.args.m, within c.requires, within (overflow_cast-result c), within (overflow_sub-result-else-m-eq0 c), dif (negsuc 0) (to_z w64 (c.args.m - 1)))
+pub returns-then-negative : goal.returns-then-negative
+returns-then-negative c =
+    let z = c.cast_signed-z in
+    let turn = c.wrapping_neg in
+    to_z-of_z {w = w64} (record { sfits = turn.type_inv }) ∙ turn.ensures
+    ∙ ap (int_wrapping_neg w64) (to_z-of_z {w = w64} (record { sfits = z.type_inv }) ∙ z.ensures)
+    ∙ ap (λ (n : ℕ). to_z w64 ((2 ^ 64 - n) % 2 ^ 64)) (of_z-to_z {w = w64} c.ranges.m)
+    ∙ rw c.if-negative.true (turned c.args.m (rw c.if-negative.true at c.requires))
 
 pub returns-else-negative : goal.returns-else-negative
-returns-else-negative c = omega (linear, when_pos c.if-negative.false c.args.m, within c.requires, within (overflow_cast-result-else-negative c))
+returns-else-negative c =
+    let z = c.cast_signed-z in
+    to_z-of_z {w = w64} (record { sfits = z.type_inv }) ∙ z.ensures
+    ∙ rw c.if-negative.false (low c.args.m (rw c.if-negative.false at c.requires).sfits)
