@@ -30,9 +30,8 @@ pub fn add(a: Exact, b: Exact) -> Exact
     ensures { value_of result ≡ value_of a +ℤ value_of b }
 {
     let high = a.high + b.high;
-    let part = a.low;
-    let low = std::num::wrapping_add_u64(part, b.low);
-    if low < part {
+    let low = a.low.wrapping_add(b.low);
+    if low < a.low {
         Exact {
             high: high + 1,
             low,
@@ -47,10 +46,8 @@ pub fn subtract(a: Exact, b: Exact) -> Exact
     ensures { value_of result ≡ value_of a -ℤ value_of b }
 {
     let high = a.high - b.high;
-    let from = a.low;
-    let part = b.low;
-    let low = std::num::wrapping_sub_u64(from, part);
-    if from < part {
+    let low = a.low.wrapping_sub(b.low);
+    if a.low < b.low {
         Exact {
             high: high - 1,
             low,

@@ -20,12 +20,10 @@ overflow_add-high c = sum_fits (left (goal.at.overflow_add-high c).After-struct_
 pub overflow_add-result : goal.overflow_add-result
 overflow_add-result c = carry_fits (left (goal.at.overflow_add-result c).After-struct_told-2-1) (right (goal.at.overflow_add-result c).After-struct_told-2-1)
 
-pub returns-then-low-part : goal.returns-then-low-part
-returns-then-low-part c =
-    let w = c.wrapping_add_u64-low in
-    carry_is (left (goal.at.returns-then-low-part c).After-struct_told-2-1) (right (goal.at.returns-then-low-part c).After-struct_told-2-1) w.result (omega (arith, left (goal.at.returns-then-low-part c).After-struct_told-2-1, right (goal.at.returns-then-low-part c).After-struct_told-2-1, w.ensures, w.type_inv))
+pub returns-then-low-a : goal.returns-then-low-a
+returns-then-low-a c =
+    carry_is (left (goal.at.returns-then-low-a c).After-struct_told-2-1) (right (goal.at.returns-then-low-a c).After-struct_told-2-1) _ (omega (arith, left (goal.at.returns-then-low-a c).After-struct_told-2-1, right (goal.at.returns-then-low-a c).After-struct_told-2-1))
 
-pub returns-else-low-part : goal.returns-else-low-part
-returns-else-low-part c =
-    let w = c.wrapping_add_u64-low in
-    sum_is (left (goal.at.returns-else-low-part c).After-struct_told-2-1) (right (goal.at.returns-else-low-part c).After-struct_told-2-1) w.result (omega (arith, left (goal.at.returns-else-low-part c).After-struct_told-2-1, right (goal.at.returns-else-low-part c).After-struct_told-2-1, w.ensures, w.type_inv))
+pub returns-else-low-a : goal.returns-else-low-a
+returns-else-low-a c =
+    sum_is (left (goal.at.returns-else-low-a c).After-struct_told-2-1) (right (goal.at.returns-else-low-a c).After-struct_told-2-1) _ (omega (arith, left (goal.at.returns-else-low-a c).After-struct_told-2-1, right (goal.at.returns-else-low-a c).After-struct_told-2-1))

@@ -20,12 +20,10 @@ overflow_sub-high c = difference_fits (left (goal.at.overflow_sub-high c).After-
 pub overflow_sub-result : goal.overflow_sub-result
 overflow_sub-result c = borrow_fits (left (goal.at.overflow_sub-result c).After-struct_told-2-1) (right (goal.at.overflow_sub-result c).After-struct_told-2-1)
 
-pub returns-then-from-part : goal.returns-then-from-part
-returns-then-from-part c =
-    let w = c.wrapping_sub_u64-low in
-    borrow_is (left (goal.at.returns-then-from-part c).After-struct_told-2-1) (right (goal.at.returns-then-from-part c).After-struct_told-2-1) w.result (omega (arith, left (goal.at.returns-then-from-part c).After-struct_told-2-1, right (goal.at.returns-then-from-part c).After-struct_told-2-1, w.ensures, w.type_inv))
+pub returns-then-a-b : goal.returns-then-a-b
+returns-then-a-b c =
+    borrow_is (left (goal.at.returns-then-a-b c).After-struct_told-2-1) (right (goal.at.returns-then-a-b c).After-struct_told-2-1) _ (omega (arith, left (goal.at.returns-then-a-b c).After-struct_told-2-1, right (goal.at.returns-then-a-b c).After-struct_told-2-1))
 
-pub returns-else-from-part : goal.returns-else-from-part
-returns-else-from-part c =
-    let w = c.wrapping_sub_u64-low in
-    difference_is (left (goal.at.returns-else-from-part c).After-struct_told-2-1) (right (goal.at.returns-else-from-part c).After-struct_told-2-1) w.result (omega (arith, left (goal.at.returns-else-from-part c).After-struct_told-2-1, right (goal.at.returns-else-from-part c).After-struct_told-2-1, w.ensures, w.type_inv))
+pub returns-else-a-b : goal.returns-else-a-b
+returns-else-a-b c =
+    difference_is (left (goal.at.returns-else-a-b c).After-struct_told-2-1) (right (goal.at.returns-else-a-b c).After-struct_told-2-1) _ (omega (arith, left (goal.at.returns-else-a-b c).After-struct_told-2-1, right (goal.at.returns-else-a-b c).After-struct_told-2-1))
