@@ -18,14 +18,14 @@ pub struct YearMonthDay {
 pub fn is_year(year: i32) -> bool
     ensures { result ≡ is_year year }
 {
-    gregorian::count::is_between(-9999, 9999, year)
+    (-9999..=9999).contains(&year)
 }
 
 // A day of such a year.
 fn is_day(days: i32) -> bool
     ensures { result ≡ is_day days }
 {
-    gregorian::count::is_between(-4371587, 2932896, days)
+    (-4371587..=2932896).contains(&days)
 }
 
 // A day's number from 1 January of year -10000.

@@ -1,13 +1,6 @@
 // Signed numbers counted from a number below them.
 ghost use Rattle.std.specs.Prelude.{◌≡◌, ◌<◌, pos, ◌+ℤ◌, ◌≤ℤ◌};
-ghost use Rattle.gregorian.specs.Count.{between, counted, signed};
-
-// From low to high, both included.
-pub fn is_between(low: i32, high: i32, z: i32) -> bool
-    ensures { result ≡ between low high z }
-{
-    low <= z && z <= high
-}
+ghost use Rattle.gregorian.specs.Count.{counted, signed};
 
 // z counted from -start.
 pub fn counted_from(start: u32, z: i32) -> u32
