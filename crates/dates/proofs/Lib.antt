@@ -1,4 +1,3 @@
-pub mod Between
 pub mod Counts
 pub mod Laws
 pub mod Cases

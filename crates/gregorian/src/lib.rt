@@ -36,13 +36,7 @@ pub fn month_length(year: u32, month: u32) -> u32
 pub fn is_date(year: u32, month: u32, day: u32) -> bool
     ensures { result ≡ is_date year month day }
 {
-    if month < 1 {
-        return false;
-    }
-    if 12 < month {
-        return false;
-    }
-    1 <= day && day <= month_length(year, month)
+    (1..=12).contains(&month) && (1..=month_length(year, month)).contains(&day)
 }
 
 // The number of a day of the year that starts on 1 March of year y: mp counts its months from 0.

@@ -4,7 +4,7 @@ use mathlib.Core.Path.{◌∙◌}
 use mir.Facts.{to_z-of_z}
 use lib.IntN.{pos, negsuc}
 use Rattle.gregorian.specs.Count.{between}
-use Rattle.dates.proofs.Between.{not_after}
+use Rattle.gregorian.proofs.Between.{not_after}
 use Rattle.dates.proofs.Counts.{is_day_lem}
 use Rattle.dates.proofs.is_day.Goals as goal
 

@@ -5,7 +5,7 @@ use lib.IntN.{pos, negsuc}
 use mir.Facts.{to_z-of_z}
 use Rattle.gregorian.specs.Count.{between}
 use Rattle.dates.specs.Date.{is_year}
-use Rattle.dates.proofs.Between.{not_after}
+use Rattle.gregorian.proofs.Between.{not_after}
 use Rattle.dates.proofs.is_year.Goals as goal
 
 pub returns : goal.returns
