@@ -3,7 +3,7 @@ ghost use Rattle.std.specs.Prelude.{◌≡◌};
 ghost use Rattle.dates.specs.Week.{named, index_of};
 
 // The day of the week, Monday first.
-#[derive(Clone, Copy)]
+#[derive(Clone, Copy, PartialEq, Eq, Debug)]
 pub enum Weekday {
     Monday,
     Tuesday,
@@ -19,15 +19,7 @@ impl Weekday {
     pub fn index(self) -> usize
         ensures { result ≡ index_of self }
     {
-        match self {
-            Weekday::Monday => 0,
-            Weekday::Tuesday => 1,
-            Weekday::Wednesday => 2,
-            Weekday::Thursday => 3,
-            Weekday::Friday => 4,
-            Weekday::Saturday => 5,
-            Weekday::Sunday => 6,
-        }
+        self as usize
     }
 }
 

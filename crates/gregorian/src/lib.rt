@@ -75,13 +75,13 @@ fn in_year(y: u32, doy: u32) -> Civil
         Civil {
             year: y,
             month: mp + 3,
-            day: day,
+            day,
         }
     } else {
         Civil {
             year: y + 1,
             month: mp - 9,
-            day: day,
+            day,
         }
     }
 }

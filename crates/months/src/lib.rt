@@ -9,13 +9,6 @@ use crate::century::FIRST_DAYS;
 
 mod century;
 
-// The same number, in 64 bits.
-fn wide(x: u16) -> u64
-    ensures { result ≡ x }
-{
-    x as u64
-}
-
 // The first days of all months. To be made once in a call and lent: each use of the constant writes it anew.
 pub fn first_days() -> [u16; 1200]
     ensures { result ≡ first_days }
@@ -28,7 +21,7 @@ pub fn first_day(days: &[u16; 1200], i: usize) -> u64
     requires { (days.now ≡ first_days) × (i < 1200) }
     ensures { result ≡ first_day (january2000 + i) }
 {
-    wide(days[i])
+    u64::from(days[i])
 }
 
 // Its last day.

@@ -3,7 +3,6 @@ use mathlib.Core.Path.{ap, ◌∙◌}
 use mathlib.Core.List.{List}
 use Prim.Native.Nat.{ℕ}
 use lib.ListN.{get_or}
-use borrow.Author.Rules.{rules}
 use Rattle.months.proofs.Table.{entries}
 use Rattle.months.proofs.first_day.Goals as goal
 
@@ -11,4 +10,4 @@ pub returns : goal.returns
 returns c =
     let i = c.args.i in
     let (is, h) = c.requires in
-    c.wide.ensures ∙ ap (λ (xs : List ℕ). get_or xs i 0) is ∙ entries i h
+    c.from.ensures ∙ ap (λ (xs : List ℕ). get_or xs i 0) is ∙ entries i h

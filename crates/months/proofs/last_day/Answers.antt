@@ -2,7 +2,6 @@
 use mathlib.Core.Path.{◌≡◌, sym, ap, ◌∙◌}
 use Prim.Native.Nat.{◌+◌}
 use native.Mathlib.Omega.{arith}
-use borrow.Author.Rules.{rules}
 use Rattle.months.specs.Months.{first_day, january2000}
 use Rattle.months.proofs.Table.{end_of_all, first_least}
 use Rattle.months.proofs.last_day.Goals as goal

@@ -1,7 +1,6 @@
 -- `month_at` meets its contract: the guess is the month or the one after it, and the table says which.
 use Prim.Native.Nat.{◌+◌, ◌<◌}
 use native.Mathlib.Omega.{arith}
-use borrow.Author.Rules.{rules}
 use Rattle.months.specs.Months.{month_number, january2000}
 use Rattle.months.proofs.Laws.{from_month, before_month}
 use Rattle.months.proofs.Guess.{months_in, guess, guess_near}
