@@ -1,5 +1,5 @@
 -- Which dates a calendar works.
-use Rattle.std.specs.Prelude.{ℕ, ◌/◌, ◌%◌, ◌^◌, Bool, false, not, cond, ◌&&◌, ◌||◌, List, [], ◌∷◌, eqb, pos, Option, Some, None}
+use Rattle.std.specs.Prelude.{ℕ, ◌/◌, ◌%◌, ◌^◌, Bool, false, not, cond, ◌&&◌, ◌||◌, List, [], ◌∷◌, eqb, pos, Option as Optional, Some, None as no_weekday}
 use Rattle.std.proofs.Math.Option.{Option, none, some, get_or}
 use Rattle.format.specs.declared.Region.{Region}
 use Rattle.format.specs.declared.Region.TheVariants.{None, Brazil}
@@ -25,8 +25,8 @@ is_region_holiday None date = false
 is_region_holiday Brazil date = is_holiday (pos date)
 
 -- the weekday's bit of the week, bit 0 Monday
-unfoldable pub works_on : ℕ → Option Weekday → Bool
-works_on week None = false
+unfoldable pub works_on : ℕ → Optional Weekday → Bool
+works_on week no_weekday = false
 works_on week (Some weekday) = eqb (week / 2 ^ index_of weekday % 2) 1
 
 -- the extra days, then the holidays and the region, then the week

@@ -18,7 +18,7 @@ ghost use Rattle.value.specs.Figures.{figures, earned_in};
 use answers::EARNED_WIDTH;
 use fields::OptionalNumber;
 use model::Earned;
-use money::scale::{SpentShare, spent};
+use money::scale::spent;
 use money::words::to_bits;
 use rows::put_optional;
 use tree::table::{VALUE_WIDTH, leaf_row_sum};
@@ -57,8 +57,8 @@ fn spent_bits(e: Earned) -> OptionalNumber
     ensures { number_option result ≡ Option.map bits (spent_in e) }
 {
     match spent(e.actual, e.budget) {
-        SpentShare::Undefined => OptionalNumber::Absent,
-        SpentShare::Of(share) => OptionalNumber::Present(to_bits(share)),
+        None => OptionalNumber::Absent,
+        Some(share) => OptionalNumber::Present(to_bits(share)),
     }
 }
 
