@@ -7,7 +7,6 @@ ghost use Rattle.laid.specs.Listed.{worked_in, Covers};
 use crate::days::{Span, is_working};
 use crate::table::lay;
 use money::shares::share;
-use money::words::magnitude;
 
 // Two amounts: `early` on each day before day `left`, `late` from it on.
 #[derive(Clone, Copy)]
@@ -22,7 +21,7 @@ pub fn deal_of(amount: i64, n: u64) -> Deal
     requires { 0 < n }
     ensures { result ≡ deal_of amount n }
 {
-    let left = magnitude(amount) % n;
+    let left = amount.unsigned_abs() % n;
     let early = share(amount, n, 0);
     let late = share(amount, n, left);
     Deal { left, early, late }

@@ -1,5 +1,4 @@
 -- A day, a date and a weekday as one number each, and what stands for an absent one.
-use Rattle.std.proofs.Math.Option.{Option, none, some}
 use Rattle.std.specs.Prelude.{ℕ, ◌+◌, ◌*◌, ℤ, pos, negsuc, ◌+ℤ◌, Option, Some, None}
 use Rattle.dates.specs.declared.week.Weekday.{Weekday}
 use Rattle.dates.specs.declared.YearMonthDay.{YearMonthDay}
@@ -11,8 +10,8 @@ absent = negsuc 0x7fff_ffff_ffff_ffff
 
 -- 1 where there is a number
 abbrev pub presence : Option ℤ → ℕ
-presence none = 0
-presence (some z) = 1
+presence None = 0
+presence (Some z) = 1
 
 abbrev pub number_of : Option ℤ → ℤ
 number_of (Some z) = z

@@ -3,8 +3,7 @@
 // one has a function of its own.
 #![tactic(auto)]
 
-ghost use Rattle.std.specs.Prelude.{cond, ◌||◌, ◌≡◌, eqb, ltb, ◌+ℤ◌};
-ghost use Rattle.std.proofs.Math.Option.{get_or};
+ghost use Rattle.std.specs.Prelude.{cond, ◌||◌, ◌≡◌, eqb, ltb, ◌+ℤ◌, unwrap_or};
 ghost use Rattle.std.specs.Int.{w64};
 ghost use Rattle.integer.specs.Clamp.{clamp};
 ghost use Rattle.integer.specs.Sums.{ints, sum};
@@ -19,9 +18,8 @@ ghost use Rattle.parts.specs.Numbers.{absent, presence, number_of, date_number, 
 
 use dates::YearMonthDay;
 use dates::week::Weekday;
-use money::scale::SpentShare;
 
-const NONE: i64 = -9223372036854775808;
+const NONE: i64 = i64::MIN;
 
 #[unsafe(no_mangle)]
 pub extern "C" fn parts_saturating_add(a: i64, b: i64) -> i64
@@ -39,22 +37,16 @@ pub extern "C" fn parts_priced(units: i64, price: i64) -> i64
 
 #[unsafe(no_mangle)]
 pub extern "C" fn parts_spent(actual: i64, budget: i64) -> i64
-    ensures { result ≡ get_or (spent_of actual budget) absent }
+    ensures { result ≡ unwrap_or (spent_of actual budget) absent }
 {
-    match money::scale::spent(actual, budget) {
-        SpentShare::Of(share) => share,
-        SpentShare::Undefined => NONE,
-    }
+    money::scale::spent(actual, budget).unwrap_or(NONE)
 }
 
 #[unsafe(no_mangle)]
 pub extern "C" fn parts_has_spent(actual: i64, budget: i64) -> u64
     ensures { result ≡ presence (spent_of actual budget) }
 {
-    match money::scale::spent(actual, budget) {
-        SpentShare::Of(share) => 1,
-        SpentShare::Undefined => 0,
-    }
+    u64::from(money::scale::spent(actual, budget).is_some())
 }
 
 #[unsafe(no_mangle)]
@@ -101,17 +93,11 @@ pub extern "C" fn parts_earned(budget: i64, done: f64) -> i64
     floats::earned(budget, done)
 }
 
-fn wide(z: i32) -> i64
-    ensures { result ≡ z }
-{
-    z as i64
-}
-
 fn number(day: Option<i32>) -> i64
     ensures { result ≡ number_of day }
 {
     match day {
-        Some(days) => wide(days),
+        Some(days) => i64::from(days),
         None => NONE,
     }
 }
@@ -123,7 +109,7 @@ fn date_number(date: Option<YearMonthDay>) -> i64
     match date {
         Some(x) => {
             let high = (u64::from(x.month) * 100 + u64::from(x.day)) * 1048576;
-            high as i64 + wide(x.year)
+            high as i64 + i64::from(x.year)
         }
         None => NONE,
     }
@@ -170,5 +156,5 @@ pub extern "C" fn parts_easter(year: i32) -> i64
 pub extern "C" fn parts_is_holiday(days: i32) -> u64
     ensures { result ≡ cond (is_holiday days) 1 0 }
 {
-    if holidays::is_holiday(days) { 1 } else { 0 }
+    u64::from(holidays::is_holiday(days))
 }

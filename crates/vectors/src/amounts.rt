@@ -2,7 +2,6 @@
 use crate::answer::{Answer, one, three, two, unknown};
 use crate::names::place;
 use money::costs::Cost;
-use money::scale::SpentShare;
 use money::words::{from_bits, to_bits};
 
 fn cost(budget: u64, actual: u64, remaining: u64) -> Cost {
@@ -45,8 +44,8 @@ fn amount(place: u64, a: i64, b: i64) -> i64 {
 // What is spent of a budget.
 fn spent(actual: u64, budget: u64) -> Answer {
     match money::scale::spent(from_bits(actual), from_bits(budget)) {
-        SpentShare::Of(share) => two(1, to_bits(share)),
-        SpentShare::Undefined => two(0, 0),
+        Some(share) => two(1, to_bits(share)),
+        None => two(0, 0),
     }
 }
 

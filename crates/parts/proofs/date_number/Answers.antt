@@ -22,15 +22,15 @@ is_sum n y r h f g e = ap₂ ◌+ℤ◌ (to_z_pos w64 {n = n} (omega (arith, h))
 
 pub overflow_add-result : goal.overflow_add-result
 overflow_add-result c =
-    let year : SFits w32 c.in-Some.year = record { sfits = omega arith } in
-    let high : (c.in-Some.month * 100 + c.in-Some.day) * 1048576 < 1000000000000000000 = omega arith in
-    rw (is_sum _ _ _ high year c.wide.type_inv c.wide.ensures) (room _ _ high year)
+    let year : SFits w32 c.in-Some.x.year = record { sfits = omega arith } in
+    let high : (c.from.result * 100 + c.from-in-Some.result) * 1048576 < 1000000000000000000 = omega (arith, c.from.ensures, c.from-in-Some.ensures) in
+    rw (is_sum _ _ _ high year c.from-in-Some-2.type_inv c.from-in-Some-2.ensures) (room _ _ high year)
 
 pub returns-in-Some : goal.returns-in-Some
 returns-in-Some c =
-    let year : SFits w32 c.in-Some.year = record { sfits = omega arith } in
-    let high : (c.in-Some.month * 100 + c.in-Some.day) * 1048576 < 1000000000000000000 = omega arith in
-    rw (c.in-Some.is, is_sum _ _ _ high year c.wide.type_inv c.wide.ensures) (to_z-of_z (room _ _ high year))
+    let year : SFits w32 c.in-Some.x.year = record { sfits = omega arith } in
+    let high : (c.from.result * 100 + c.from-in-Some.result) * 1048576 < 1000000000000000000 = omega (arith, c.from.ensures, c.from-in-Some.ensures) in
+    rw (c.in-Some.is, is_sum _ _ _ high year c.from-in-Some-2.type_inv c.from-in-Some-2.ensures, ← c.from.ensures, ← c.from-in-Some.ensures) (to_z-of_z (room _ _ high year))
 
 pub returns-in-None : goal.returns-in-None
 returns-in-None c = rw c.in-None.is refl

@@ -1,15 +1,14 @@
 -- `parts_is_holiday` meets its contract: by the test.
 use mathlib.Core.Path.{◌≡◌, refl, ap, ◌∙◌}
+use mathlib.Core.Bool.{Bool, true, false, cond}
+use mir.Val.{bool_byte}
 use mir.Facts.{to_z-of_z}
 use Rattle.holidays.specs.Holiday.{is_holiday}
 use Rattle.parts.proofs.parts_is_holiday.Goals as goal
-use Rattle.parts.proofs.parts_is_holiday.Goals.{After-is_holiday}
 
-tested : (c : After-is_holiday) → c.is_holiday.result ≡ is_holiday c.args.days
-tested c = c.is_holiday.ensures ∙ ap is_holiday (to_z-of_z c.ranges.days)
+as_number : (b : Bool) → bool_byte b ≡ cond b 1 0
+as_number true = refl
+as_number false = refl
 
-pub returns-then-is_holiday : goal.returns-then-is_holiday
-returns-then-is_holiday c = rw (← tested (goal.at.returns-then-is_holiday c).After-is_holiday, c.if-is_holiday.true) refl
-
-pub returns-else-is_holiday : goal.returns-else-is_holiday
-returns-else-is_holiday c = rw (← tested (goal.at.returns-else-is_holiday c).After-is_holiday, c.if-is_holiday.false) refl
+pub returns : goal.returns
+returns c = c.from.ensures ∙ ap bool_byte (c.is_holiday.ensures ∙ ap is_holiday (to_z-of_z c.ranges.days)) ∙ as_number (is_holiday c.args.days)
