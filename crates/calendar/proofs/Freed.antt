@@ -19,7 +19,7 @@ use Rattle.gregorian.proofs.Below.{at_below}
 use Rattle.gregorian.proofs.Leap.{closed, is_closed}
 use Rattle.gregorian.proofs.Counts.{is_true}
 use Rattle.gregorian.proofs.Laws.{year_from, year_before}
-use Rattle.dates.specs.Date.{ymd_of}
+use Rattle.dates.specs.Date.{dated, ymd_of}
 use Rattle.dates.proofs.Counts.{epoch_is, is_day_lem}
 use Rattle.holidays.specs.Holiday.{same, is_holiday}
 use Rattle.lists.specs.Lists.{any, span}
@@ -45,7 +45,7 @@ starts : (n : ℕ) → n < 131 → days_to_year (n + 11970) ≡ start_of n
 unfolding right start_of
 starts n h = is_closed (n + 11970) ∙ eqb-true (closed (n + 11970)) (start_of n) (is_true (right n) (at_below right 131 tt n h))
 
-pub year_of_lem : (date : ℕ) → date ≤ 47481 → ymd_of (pos date) ≡ Of (pos (years_past date + 1970)) (civil (date + 4371953)).month (civil (date + 4371953)).day
+pub year_of_lem : (date : ℕ) → date ≤ 47481 → ymd_of (pos date) ≡ Some (dated (pos (years_past date + 1970)) (civil (date + 4371953)).month (civil (date + 4371953)).day)
 unfolding ymd_of between counted signed start_of
 year_of_lem date h =
     let n = years_past date in
