@@ -19,5 +19,5 @@ overflow_sub-all c =
 pub returns : goal.returns
 unfolding of_bits
 returns c =
-    c.value_or.ensures
-    ∙ rw (c.ratio-worked.ensures, to_z-of_z (overflow_sub-all (goal.at.returns c).Start), to_z_pos w64 {n = c.args.working} (omega (arith, c.requires.0)), to_z_pos w64 {n = c.args.remaining} (omega (arith, c.requires.1))) refl
+    c.unwrap_or.ensures
+    ∙ rw (c.ratio.ensures, to_z-of_z (overflow_sub-all (goal.at.returns c).Start), to_z_pos w64 {n = c.args.working} (omega (arith, c.requires.0)), to_z_pos w64 {n = c.args.remaining} (omega (arith, c.requires.1))) refl

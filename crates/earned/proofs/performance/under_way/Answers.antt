@@ -19,7 +19,7 @@ returns-in-Duration c = rw c.in-Duration.is (c.clamp01.ensures ∙ ap clamp01_of
 pub returns-in-Units : goal.returns-in-Units
 returns-in-Units c =
     rw c.in-Units.is
-    (c.clamp01-in-Units.ensures ∙ ap clamp01_of (c.value_or.ensures ∙ rw (c.ratio-index.ensures, c.by_duration-in-Units.ensures, to_z-of_z c.ranges.done, to_z-of_z c.ranges.all) refl))
+    (c.clamp01-in-Units.ensures ∙ ap clamp01_of (c.unwrap_or.ensures ∙ rw (c.ratio.ensures, c.by_duration-in-Units.ensures, to_z-of_z c.ranges.done, to_z-of_z c.ranges.all) refl))
 
 pub returns-in-ZeroHundred : goal.returns-in-ZeroHundred
 unfolding of_bits
