@@ -66,8 +66,7 @@ pub fn is_holiday(days: i32) -> bool
     match dates::ymd(days) {
         Some(date) => {
             is_fixed(date.month, date.day)
-                || (is_awareness(date.year, date.month, date.day)
-                    || is_by_easter(date.year, days))
+                || (is_awareness(date.year, date.month, date.day) || is_by_easter(date.year, days))
         }
         None => false,
     }
