@@ -2,8 +2,6 @@
 use Rattle.std.proofs.Common.{◌≡◌, ℕ, zero, suc, ◌+◌, ◌-◌, ◌%◌, ◌^◌, ◌<◌, ◌≤◌, Bool, true, cond, ℤ, pos, negsuc, refl, ap, ◌∙◌, arith, w64, SFits, to_z, of_z, le-ltb, lt-ltb}
 use native.Mathlib.Decide.{dec_lt}
 use Rattle.integer.specs.Linear.{plus, minus}
-use Rattle.std.specs.Int.{saturate_signed}
-use Rattle.integer.specs.Clamp.{clamp}
 use Rattle.integer.specs.Signs.{with_sign}
 use Rattle.money.specs.Words.{bits, of_bits}
 
@@ -24,7 +22,7 @@ back_and_there n h = go (dec_lt n (2 ^ 63))
     go (yes k) = ap bits (low n k)
     go (no k) = ap bits (high n (omega arith)) ∙ omega arith
 
--- std's casts and its clamp
+-- std's casts
 pub cast_bits : (z : ℤ) → of_z w64 z ≡ bits z
 cast_bits (pos n) = refl
 cast_bits (negsuc n) = refl
@@ -38,10 +36,6 @@ turned zero h = refl
 turned (suc k) h =
     let same : (2 ^ 64 - suc k) % 2 ^ 64 ≡ 2 ^ 64 - suc k = omega (arith, h.sfits) in
     ap (to_z w64) same ∙ there_and_back (negsuc k) h
-
-pub saturates : (z : ℤ) → saturate_signed w64 z ≡ clamp w64 z
-saturates (pos n) = refl
-saturates (negsuc n) = refl
 
 pub bits_pos : (z : ℤ) → minus z ≡ 0 → bits z ≡ plus z
 bits_pos (pos n) h = refl
