@@ -14,7 +14,7 @@ ghost use Rattle.fields.specs.Common.{Fits};
 ghost use Rattle.fields.specs.Optional.{number_option, amount_option};
 
 use crate::numbers::{Few, brief, mark_at, number, short};
-use crate::{Amount, Field, OptionalAmount, OptionalAmountField, OptionalField, OptionalNumber};
+use crate::{OptionalAmount, OptionalNumber, Read};
 use format::{Num, OUT_OF_ORDER, OUT_OF_RANGE, Pos};
 
 // The place of a position: of what is read next, or of the refusal.
@@ -28,15 +28,15 @@ pub fn place(at: Pos) -> usize
 }
 
 // A number that was read, as a field.
-fn found(n: Num) -> Field
+fn found(n: Num) -> Read<u64>
     ensures { (result.value, result.next) ≡ reader.found n }
 {
     match n {
-        Num::Value(v, next) => Field {
+        Num::Value(v, next) => Read {
             value: v,
             next: Pos::At(next),
         },
-        Num::Refused(e, p) => Field {
+        Num::Refused(e, p) => Read {
             value: 0,
             next: Pos::Refused(e, p),
         },
@@ -75,21 +75,21 @@ fn fits(n: Few, low: u64, bound: u64) -> bool
 }
 
 // Any number.
-pub fn any_number(book: &[u8], at: Pos) -> Field
+pub fn any_number(book: &[u8], at: Pos) -> Read<u64>
     ensures { (result.value, result.next) ≡ reader.number book.now at }
 {
     match at {
         Pos::At(i) => {
             let n = short(book, i);
             if n.next != 0 {
-                return Field {
+                return Read {
                     value: n.value,
                     next: Pos::At(n.next),
                 };
             }
             found(number(book, i))
         }
-        Pos::Refused(e, p) => Field {
+        Pos::Refused(e, p) => Read {
             value: 0,
             next: Pos::Refused(e, p),
         },
@@ -97,14 +97,14 @@ pub fn any_number(book: &[u8], at: Pos) -> Field
 }
 
 // A number from `low` to below `bound`; outside, the refusal `code` at `place`.
-pub fn ranged(book: &[u8], at: Pos, place: usize, low: u64, bound: u64, code: u64) -> Field
+pub fn ranged(book: &[u8], at: Pos, place: usize, low: u64, bound: u64, code: u64) -> Read<u64>
     ensures { (result.value, result.next) ≡ reader.ranged low bound code place book.now at }
 {
     match at {
         Pos::At(i) => {
             let n = short(book, i);
             if fits(n, low, bound) {
-                return Field {
+                return Read {
                     value: n.value,
                     next: Pos::At(n.next),
                 };
@@ -112,7 +112,7 @@ pub fn ranged(book: &[u8], at: Pos, place: usize, low: u64, bound: u64, code: u6
             let n = number(book, i);
             found(within(n, low, bound, code, place))
         }
-        Pos::Refused(e, p) => Field {
+        Pos::Refused(e, p) => Read {
             value: 0,
             next: Pos::Refused(e, p),
         },
@@ -120,7 +120,7 @@ pub fn ranged(book: &[u8], at: Pos, place: usize, low: u64, bound: u64, code: u6
 }
 
 // The same, refused at its own place: a U, or with COUNT_OUT_OF_RANGE the count of a list.
-pub fn field(book: &[u8], at: Pos, low: u64, bound: u64, code: u64) -> Field
+pub fn field(book: &[u8], at: Pos, low: u64, bound: u64, code: u64) -> Read<u64>
     ensures { (result.value, result.next) ≡ (codec.field (kind.range low bound code)).read book.now at }
 {
     let p = place(at);
@@ -128,14 +128,14 @@ pub fn field(book: &[u8], at: Pos, low: u64, bound: u64, code: u64) -> Field
 }
 
 // O of a number from `low` to below `bound`, which is refused at its mark's place.
-fn optional(book: &[u8], at: usize, low: u64, bound: u64) -> OptionalField
+fn optional(book: &[u8], at: usize, low: u64, bound: u64) -> Read<OptionalNumber>
     ensures { (number_option result.value, result.next) ≡ (O (kind.range low bound 4)).read book.now (At at) }
 {
     let start = Pos::At(at);
     let mark = field(book, start, 0, 2, OUT_OF_RANGE);
     let next = mark.next;
     if mark.value == 0 {
-        return OptionalField {
+        return Read {
             value: OptionalNumber::Absent,
             next,
         };
@@ -143,7 +143,7 @@ fn optional(book: &[u8], at: usize, low: u64, bound: u64) -> OptionalField
     let mark_place = place(start);
     let value = ranged(book, next, mark_place, low, bound, OUT_OF_RANGE);
     let end = value.next;
-    OptionalField {
+    Read {
         value: OptionalNumber::Present(value.value),
         next: end,
     }
@@ -158,51 +158,51 @@ fn signed_of(v: u64) -> i64
 }
 
 // S: a signed number.
-pub fn amount(book: &[u8], at: Pos) -> Amount
+pub fn amount(book: &[u8], at: Pos) -> Read<i64>
     ensures { (result.value, result.next) ≡ (codec.field S).read book.now at }
 {
     let n = any_number(book, at);
     let next = n.next;
     let value = signed_of(n.value);
-    Amount { value, next }
+    Read { value, next }
 }
 
 // O S: a signed number that may be absent.
-pub fn optional_amount(book: &[u8], at: Pos) -> OptionalAmountField
+pub fn optional_amount(book: &[u8], at: Pos) -> Read<OptionalAmount>
     ensures { (amount_option result.value, result.next) ≡ (O S).read book.now at }
 {
     let mark = field(book, at, 0, 2, OUT_OF_RANGE);
     let next = mark.next;
     if mark.value == 0 {
-        return OptionalAmountField {
+        return Read {
             value: OptionalAmount::Absent,
             next,
         };
     }
     let value = amount(book, next);
     let end = value.next;
-    OptionalAmountField {
+    Read {
         value: OptionalAmount::Present(value.value),
         next: end,
     }
 }
 
 // D: a date, as the count of days from 1 January 1970, in the years 2000 to 2099.
-pub fn date(book: &[u8], at: Pos) -> Field
+pub fn date(book: &[u8], at: Pos) -> Read<u64>
     ensures { (result.value, result.next) ≡ (codec.field D).read book.now at }
 {
     field(book, at, 10957, 47482, OUT_OF_RANGE)
 }
 
 // O D: a date that may be absent.
-pub fn optional_date(book: &[u8], at: Pos) -> OptionalField
+pub fn optional_date(book: &[u8], at: Pos) -> Read<OptionalNumber>
     ensures { (number_option result.value, result.next) ≡ (O D).read book.now at }
 {
     match at {
         Pos::At(i) => {
             let mark = mark_at(book, i);
             if mark == 0 {
-                return OptionalField {
+                return Read {
                     value: OptionalNumber::Absent,
                     next: Pos::At(i + 1),
                 };
@@ -210,7 +210,7 @@ pub fn optional_date(book: &[u8], at: Pos) -> OptionalField
             if mark == 1 {
                 let n = short(book, i + 1);
                 if fits(n, 10957, 47482) {
-                    return OptionalField {
+                    return Read {
                         value: OptionalNumber::Present(n.value),
                         next: Pos::At(n.next),
                     };
@@ -218,7 +218,7 @@ pub fn optional_date(book: &[u8], at: Pos) -> OptionalField
             }
             optional(book, i, 10957, 47482)
         }
-        Pos::Refused(e, p) => OptionalField {
+        Pos::Refused(e, p) => Read {
             value: OptionalNumber::Absent,
             next: Pos::Refused(e, p),
         },
@@ -226,21 +226,21 @@ pub fn optional_date(book: &[u8], at: Pos) -> OptionalField
 }
 
 // An index: below the count of what it names.
-pub fn index(book: &[u8], at: Pos, named: u64) -> Field
+pub fn index(book: &[u8], at: Pos, named: u64) -> Read<u64>
     ensures { (result.value, result.next) ≡ (codec.field (kind.index named)).read book.now at }
 {
     field(book, at, 0, named, OUT_OF_RANGE)
 }
 
 // O index: an index that may be absent.
-pub fn optional_index(book: &[u8], at: Pos, named: u64) -> OptionalField
+pub fn optional_index(book: &[u8], at: Pos, named: u64) -> Read<OptionalNumber>
     ensures { (number_option result.value, result.next) ≡ (O (kind.index named)).read book.now at }
 {
     match at {
         Pos::At(i) => {
             let mark = mark_at(book, i);
             if mark == 0 {
-                return OptionalField {
+                return Read {
                     value: OptionalNumber::Absent,
                     next: Pos::At(i + 1),
                 };
@@ -248,7 +248,7 @@ pub fn optional_index(book: &[u8], at: Pos, named: u64) -> OptionalField
             if mark == 1 {
                 let n = brief(book, i + 1);
                 if fits(n, 0, named) {
-                    return OptionalField {
+                    return Read {
                         value: OptionalNumber::Present(n.value),
                         next: Pos::At(n.next),
                     };
@@ -256,7 +256,7 @@ pub fn optional_index(book: &[u8], at: Pos, named: u64) -> OptionalField
             }
             optional(book, i, 0, named)
         }
-        Pos::Refused(e, p) => OptionalField {
+        Pos::Refused(e, p) => Read {
             value: OptionalNumber::Absent,
             next: Pos::Refused(e, p),
         },
@@ -264,14 +264,14 @@ pub fn optional_index(book: &[u8], at: Pos, named: u64) -> OptionalField
 }
 
 // Minutes: up to 1,000,000,000.
-pub fn minutes(book: &[u8], at: Pos) -> Field
+pub fn minutes(book: &[u8], at: Pos) -> Read<u64>
     ensures { (result.value, result.next) ≡ (codec.field kind.minutes).read book.now at }
 {
     field(book, at, 0, 1000000001, OUT_OF_RANGE)
 }
 
 // The date d, read at `place`, where it is above the one before it; else refusal 6.
-fn above(d: Field, before: u64, place: usize) -> Field
+fn above(d: Read<u64>, before: u64, place: usize) -> Read<u64>
     ensures { (result.value, result.next) ≡ reader.tested 0 6 place (ltb before d.value) (d.value, d.next) }
 {
     let next = d.next;
@@ -280,7 +280,7 @@ fn above(d: Field, before: u64, place: usize) -> Field
             if before < d.value {
                 return d;
             }
-            Field {
+            Read {
                 value: 0,
                 next: Pos::Refused(OUT_OF_ORDER, place),
             }
@@ -290,7 +290,7 @@ fn above(d: Field, before: u64, place: usize) -> Field
 }
 
 // D, strictly above the date before it.
-pub fn rising(book: &[u8], at: Pos, before: u64) -> Field
+pub fn rising(book: &[u8], at: Pos, before: u64) -> Read<u64>
     ensures { (result.value, result.next) ≡ (layout.rising before).read book.now at }
 {
     let d = date(book, at);

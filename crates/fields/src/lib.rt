@@ -7,17 +7,10 @@ pub mod enumerations;
 pub mod kinds;
 pub mod numbers;
 
-// A number, 0 where it was refused, and where reading goes on.
+// What was read, 0 or nothing where it was refused, and where reading goes on.
 #[derive(Clone, Copy)]
-pub struct Field {
-    pub value: u64,
-    pub next: Pos,
-}
-
-// A signed number, 0 where it was refused, and where reading goes on.
-#[derive(Clone, Copy)]
-pub struct Amount {
-    pub value: i64,
+pub struct Read<T> {
+    pub value: T,
     pub next: Pos,
 }
 
@@ -31,18 +24,4 @@ pub enum OptionalNumber {
 pub enum OptionalAmount {
     Absent,
     Present(i64),
-}
-
-// A number that may be absent, and where reading goes on.
-#[derive(Clone, Copy)]
-pub struct OptionalField {
-    pub value: OptionalNumber,
-    pub next: Pos,
-}
-
-// A signed number that may be absent, and where reading goes on.
-#[derive(Clone, Copy)]
-pub struct OptionalAmountField {
-    pub value: OptionalAmount,
-    pub next: Pos,
 }

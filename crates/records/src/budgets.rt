@@ -10,7 +10,7 @@ ghost use Rattle.records.specs.Decoded.{budget_change_of};
 
 use fields::enumerations::change_status_of;
 use fields::kinds::{amount, field, optional_index, place};
-use fields::{OptionalField, OptionalNumber};
+use fields::{OptionalNumber, Read};
 use format::{ChangeStatus, OUT_OF_ORDER, OUT_OF_RANGE, Pos};
 
 // What leads a budget. Its plan follows.
@@ -30,7 +30,7 @@ pub struct BudgetChange {
 }
 
 // What a budget names, read at `place`, where no budget before it names the same; else refusal 6.
-fn named_once(named: OptionalField, new: bool, place: usize) -> OptionalField
+fn named_once(named: Read<OptionalNumber>, new: bool, place: usize) -> Read<OptionalNumber>
     ensures { (number_option result.value, result.next) ≡ tested none 6 place new (number_option named.value, named.next) }
 {
     let next = named.next;
@@ -39,7 +39,7 @@ fn named_once(named: OptionalField, new: bool, place: usize) -> OptionalField
             if new {
                 return named;
             }
-            OptionalField {
+            Read {
                 value: OptionalNumber::Absent,
                 next: Pos::Refused(OUT_OF_ORDER, place),
             }

@@ -4,17 +4,10 @@ ghost use Rattle.format.specs.Enumeration.{resource_kind};
 ghost use Rattle.format.specs.Format as layout;
 ghost use Rattle.records.specs.Decoded.{price_of};
 
-use fields::OptionalNumber;
+use fields::{OptionalNumber, Read};
 use fields::enumerations::resource_kind_of;
 use fields::kinds::{amount, field, optional_date};
 use format::{OUT_OF_RANGE, Pos, ResourceKind};
-
-// What leads a resource. Its prices follow.
-#[derive(Clone, Copy)]
-pub struct ResourceHead {
-    pub kind: ResourceKind,
-    pub next: Pos,
-}
 
 // A price per unit and the day that it holds from.
 #[derive(Clone, Copy)]
@@ -24,13 +17,14 @@ pub struct Price {
     pub next: Pos,
 }
 
-pub fn read_resource_head(book: &[u8], at: Pos) -> ResourceHead
-    ensures { (result.kind, result.next) ≡ resource_kind.read book.now at }
+// What leads a resource, its kind. Its prices follow.
+pub fn read_resource_head(book: &[u8], at: Pos) -> Read<ResourceKind>
+    ensures { (result.value, result.next) ≡ resource_kind.read book.now at }
 {
     let kind = field(book, at, 0, 3, OUT_OF_RANGE);
     let next = kind.next;
-    let kind = resource_kind_of(kind.value);
-    ResourceHead { kind, next }
+    let value = resource_kind_of(kind.value);
+    Read { value, next }
 }
 
 pub fn read_price(book: &[u8], at: Pos) -> Price

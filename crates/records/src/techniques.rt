@@ -2,18 +2,13 @@
 ghost use Rattle.std.specs.Prelude.{◌≡◌};
 ghost use Rattle.format.specs.Enumeration as enumeration;
 
+use fields::Read;
 use fields::enumerations::technique_of;
 use fields::kinds::{amount, field};
 use format::{EvTechnique, OUT_OF_RANGE, Pos};
 
-#[derive(Clone, Copy)]
-pub struct Technique {
-    pub value: EvTechnique,
-    pub next: Pos,
-}
-
 // The number of the technique, and after 5 its share.
-pub fn read_technique(book: &[u8], at: Pos) -> Technique
+pub fn read_technique(book: &[u8], at: Pos) -> Read<EvTechnique>
     ensures { (result.value, result.next) ≡ (enumeration.technique).read book.now at }
 {
     let number = field(book, at, 0, 6, OUT_OF_RANGE);
@@ -21,11 +16,11 @@ pub fn read_technique(book: &[u8], at: Pos) -> Technique
     if number.value == 5 {
         let share = amount(book, next);
         let end = share.next;
-        return Technique {
+        return Read {
             value: EvTechnique::Custom(share.value),
             next: end,
         };
     }
     let value = technique_of(number.value);
-    Technique { value, next }
+    Read { value, next }
 }

@@ -41,6 +41,6 @@ pub fn read_resource(book: &[u8], at: Pos) -> Resource
     let at1 = head.next;
     let prices = read_prices(book, at1);
     let next = prices.next;
-    let kind = head.kind;
+    let kind = head.value;
     Resource { kind, prices, next }
 }
