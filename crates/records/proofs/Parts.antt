@@ -1,6 +1,6 @@
 -- What a codec reads, from what its parts read.
 use Prim.Native.Nat.{ℕ, ◌^◌, ◌<◌}
-use mathlib.Core.Path.{◌≡◌, ap, ◌∙◌}
+use mathlib.Core.Path.{◌≡◌, ap}
 use mathlib.Core.Bool.{Bool}
 use mathlib.Core.List.{List}
 use lib.IntN.{ℤ}
@@ -63,14 +63,3 @@ unfolding ◌&◌ ◌then◌ both
 head_read a b rest s c p q =
     let mid = (a.read s c).1 in
     both_read a (λ v. b & rest) s c (ap (λ v. (v.0.0, mid)) p) (both_read b (λ v. rest) s mid (ap (λ v. (v.0.1, v.1)) p) q)
-
--- where reading goes on: after one, then another
-pub past :
-    {A B : Type 0} (a : Codec A) (b : Codec B) (s : List ℕ) (c : Pos) {mid end : Pos} {x : A} →
-    (x, mid) ≡ a.read s c → end ≡ (b.read s mid).1 → end ≡ ((a & b).read s c).1
-unfolding ◌&◌ ◌then◌ both
-past a b s c p q = q ∙ ap (λ v. (b.read s v.1).1) p
-
--- and after the last
-pub past_last : {A : Type 0} {x : A} {end : Pos} {r : A × Pos} → (x, end) ≡ r → end ≡ r.1
-past_last p = ap (λ v. v.1) p

@@ -1,4 +1,4 @@
-// The records of the book, each read whole: its fields, decoded, and where reading goes on; or only where reading goes on.
+// The records of the book, each read whole: its fields, decoded, and where reading goes on.
 #![tactic(auto)]
 
 pub mod activities;
@@ -6,5 +6,4 @@ pub mod budgets;
 pub mod calendars;
 pub mod periods;
 pub mod resources;
-pub mod skips;
 pub mod techniques;

@@ -10,10 +10,9 @@ use crate::calendars::read_calendar;
 use crate::resources::read_resource;
 use fields::kinds::{date, field};
 use format::{COUNT_OUT_OF_RANGE, Pos};
+use records::activities::{read_activity, read_assignment, read_baseline_line, read_expense};
 use records::budgets::read_budget_change;
-use records::skips::{
-    skip_activity, skip_assignment, skip_baseline_line, skip_expense, skip_period_record,
-};
+use records::periods::read_period_record;
 
 // What a list is of, with the counts that its indices are below.
 #[derive(Clone, Copy)]
@@ -34,36 +33,24 @@ fn skip(book: &[u8], at: Pos, element: Element) -> Pos
     ensures { result ≡ ((codec_of element).read book.now at).1 }
 {
     match element {
-        Element::Calendar => {
-            let x = read_calendar(book, at);
-            x.next
-        }
+        Element::Calendar => read_calendar(book, at).next,
         Element::Activity {
             calendars,
             activities,
-        } => skip_activity(book, at, calendars, activities),
-        Element::Resource => {
-            let x = read_resource(book, at);
-            x.next
-        }
+        } => read_activity(book, at, calendars, activities).next,
+        Element::Resource => read_resource(book, at).next,
         Element::Assignment {
             activities,
             resources,
-        } => skip_assignment(book, at, activities, resources),
-        Element::Expense { activities } => skip_expense(book, at, activities),
-        Element::BaselineLine { activities } => skip_baseline_line(book, at, activities),
-        Element::BudgetChange { activities } => {
-            let x = read_budget_change(book, at, activities);
-            x.next
-        }
-        Element::Period => {
-            let x = date(book, at);
-            x.next
-        }
+        } => read_assignment(book, at, activities, resources).next,
+        Element::Expense { activities } => read_expense(book, at, activities).next,
+        Element::BaselineLine { activities } => read_baseline_line(book, at, activities).next,
+        Element::BudgetChange { activities } => read_budget_change(book, at, activities).next,
+        Element::Period => date(book, at).next,
         Element::PeriodRecord {
             periods,
             activities,
-        } => skip_period_record(book, at, periods, activities),
+        } => read_period_record(book, at, periods, activities).next,
     }
 }
 
@@ -72,10 +59,8 @@ pub fn skip_all(book: &[u8], at: Pos, element: Element, count: u64) -> Pos
     ensures { result ≡ ((alike count (codec_of element)).read book.now at).1 }
 {
     let mut next = at;
-    let mut i: u64 = 0;
-    while i < count {
+    for _ in 0..count {
         next = skip(book, next, element);
-        i += 1;
     }
     next
 }

@@ -9,28 +9,28 @@ next_is : {A : Type 0} {v : A} {q : Pos} {r : A × Pos} → (v, q) ≡ r → q �
 next_is e = ap (λ x. x.1) e
 
 pub returns-in-Calendar : goal.returns-in-Calendar
-returns-in-Calendar c = rw c.in-Calendar.is (next_is c.read_calendar-x.ensures)
+returns-in-Calendar c = rw c.in-Calendar.is (next_is c.read_calendar.ensures)
 
 pub returns-in-Activity : goal.returns-in-Activity
-returns-in-Activity c = rw c.in-Activity.is c.skip_activity.ensures
+returns-in-Activity c = rw c.in-Activity.is (next_is c.read_activity.ensures)
 
 pub returns-in-Resource : goal.returns-in-Resource
-returns-in-Resource c = rw c.in-Resource.is (next_is c.read_resource-x.ensures)
+returns-in-Resource c = rw c.in-Resource.is (next_is c.read_resource.ensures)
 
 pub returns-in-Assignment : goal.returns-in-Assignment
-returns-in-Assignment c = rw c.in-Assignment.is c.skip_assignment.ensures
+returns-in-Assignment c = rw c.in-Assignment.is (next_is c.read_assignment.ensures)
 
 pub returns-in-Expense : goal.returns-in-Expense
-returns-in-Expense c = rw c.in-Expense.is c.skip_expense.ensures
+returns-in-Expense c = rw c.in-Expense.is (next_is c.read_expense.ensures)
 
 pub returns-in-BaselineLine : goal.returns-in-BaselineLine
-returns-in-BaselineLine c = rw c.in-BaselineLine.is c.skip_baseline_line.ensures
+returns-in-BaselineLine c = rw c.in-BaselineLine.is (next_is c.read_baseline_line.ensures)
 
 pub returns-in-BudgetChange : goal.returns-in-BudgetChange
-returns-in-BudgetChange c = rw c.in-BudgetChange.is (next_is c.read_budget_change-x.ensures)
+returns-in-BudgetChange c = rw c.in-BudgetChange.is (next_is c.read_budget_change.ensures)
 
 pub returns-in-Period : goal.returns-in-Period
-returns-in-Period c = rw c.in-Period.is (next_is c.date-x.ensures)
+returns-in-Period c = rw c.in-Period.is (next_is c.date.ensures)
 
 pub returns-in-PeriodRecord : goal.returns-in-PeriodRecord
-returns-in-PeriodRecord c = rw c.in-PeriodRecord.is c.skip_period_record.ensures
+returns-in-PeriodRecord c = rw c.in-PeriodRecord.is (next_is c.read_period_record.ensures)

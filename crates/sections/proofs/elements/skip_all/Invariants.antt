@@ -1,13 +1,9 @@
 -- `skip_all` meets its contract: one element a turn.
-use Prim.Native.Nat.{◌-◌}
 use borrow.Author.Rules.{rules}
 use Rattle.format.specs.Codec.{stay}
 use Rattle.sections.specs.Elements.{codec_of}
 use Rattle.sections.proofs.Lists.{Going, going_none, going_more, going_end, with_value}
 use Rattle.sections.proofs.elements.skip_all.Given as goal
 
-abbrev pub invariant-loop-i : goal.invariant-loop-i
-invariant-loop-i l = Going (λ (x : Unit {0}). codec_of l.element) stay l.book l.count tt l.initial.next l.i tt l.next
-
-abbrev pub decreases-loop-i : goal.decreases-loop-i
-decreases-loop-i l = l.count - l.i
+abbrev pub invariant-loop : goal.invariant-loop
+invariant-loop l = Going (λ (x : Unit {0}). codec_of l.element) stay l.book l.count tt l.initial.next l.counter tt l.next
