@@ -31,11 +31,8 @@ pub fn read_amounts(book: &[u8], at: Pos, most: u64) -> Section
     let first = lead.next;
     let count = lead.value;
     let mut next = first;
-    let mut i: u64 = 0;
-    while i < count {
-        let a = amount(book, next);
-        next = a.next;
-        i += 1;
+    for _ in 0..count {
+        next = amount(book, next).next;
     }
     Section { count, first, next }
 }
@@ -84,8 +81,7 @@ pub fn read_budgets(book: &[u8], at: Pos, activities: u64) -> Section
     }
     let mut marks = [0u64; 501];
     let mut next = first;
-    let mut i: u64 = 0;
-    while i < count {
+    for _ in 0..count {
         let named = optional_index(book, next, activities);
         let name = named.value;
         let k = mark_of(name);
@@ -94,7 +90,6 @@ pub fn read_budgets(book: &[u8], at: Pos, activities: u64) -> Section
         let j = mark_of(activity);
         marks[j] = 1;
         next = b.next;
-        i += 1;
     }
     Section { count, first, next }
 }

@@ -28,12 +28,10 @@ fn read_days(book: &[u8], at: Pos) -> Section
     let count = lead.value;
     let mut next = first;
     let mut before: u64 = 0;
-    let mut i: u64 = 0;
-    while i < count {
+    for _ in 0..count {
         let d = rising(book, next, before);
         before = d.value;
         next = d.next;
-        i += 1;
     }
     Section { count, first, next }
 }
@@ -47,12 +45,10 @@ fn read_exceptions(book: &[u8], at: Pos) -> Section
     let count = lead.value;
     let mut next = first;
     let mut before: u64 = 0;
-    let mut i: u64 = 0;
-    while i < count {
+    for _ in 0..count {
         let e = read_exception(book, next, before);
         before = e.day;
         next = e.next;
-        i += 1;
     }
     Section { count, first, next }
 }

@@ -24,11 +24,8 @@ fn read_prices(book: &[u8], at: Pos) -> Section
     let first = lead.next;
     let count = lead.value;
     let mut next = first;
-    let mut i: u64 = 0;
-    while i < count {
-        let p = read_price(book, next);
-        next = p.next;
-        i += 1;
+    for _ in 0..count {
+        next = read_price(book, next).next;
     }
     Section { count, first, next }
 }

@@ -1,6 +1,5 @@
 -- `mark_of` meets its contract, by what is named.
 use native.Mathlib.Omega.{arith}
-use borrow.Author.Rules.{rules}
 use Rattle.sections.specs.Sections.{mark_of}
 use Rattle.sections.proofs.budgets.mark_of.Goals as goal
 

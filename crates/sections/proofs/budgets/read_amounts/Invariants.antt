@@ -1,14 +1,8 @@
 -- `read_amounts` meets its contract: one amount a turn.
-use Prim.Native.Nat.{◌-◌}
-use native.Mathlib.Numerals.{add-one}
-use borrow.Author.Rules.{rules}
 use Rattle.format.specs.Codec.{stay}
 use Rattle.format.specs.Format.{amount}
-use Rattle.sections.proofs.Lists.{Going, going_none, going_more, going_end}
+use Rattle.sections.proofs.Lists.{Going}
 use Rattle.sections.proofs.budgets.read_amounts.Given as goal
 
-abbrev pub invariant-loop-i : goal.invariant-loop-i
-invariant-loop-i l = Going (λ (x : Unit {0}). amount) stay l.book l.count tt l.first l.i tt l.next
-
-abbrev pub decreases-loop-i : goal.decreases-loop-i
-decreases-loop-i l = l.count - l.i
+abbrev pub invariant-loop : goal.invariant-loop
+invariant-loop l = Going (λ (x : Unit {0}). amount) stay l.book l.count tt l.first l.counter tt l.next

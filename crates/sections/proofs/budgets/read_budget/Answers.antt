@@ -8,7 +8,6 @@ use lib.Signed.{mag}
 use mir.Syntax.{w64}
 use mir.Val.{to_z, of_z}
 use Prim.Native.Nat.{ℕ, ◌^◌, ◌<◌}
-use borrow.Author.Rules.{rules}
 use Rattle.format.specs.declared.Pos.{Pos}
 use Rattle.format.specs.Reader.{both}
 use Rattle.format.specs.Field.{index}

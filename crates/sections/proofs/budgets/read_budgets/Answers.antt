@@ -1,24 +1,22 @@
 -- `read_budgets` meets its contract: what is marked is what a budget before names.
-use Prim.Native.Nat.{ℕ, ◌-◌, ◌<◌}
+use Prim.Native.Nat.{◌<◌}
 use native.Mathlib.Omega.{arith}
 use mathlib.Core.Path.{◌≡◌, ap, sym, subst}
-use mathlib.Core.List.{List, [], ◌∷◌}
-use mathlib.Core.Option.{Option}
+use mathlib.Core.List.{[], ◌∷◌}
 use lib.Dec.{eqb}
 use lib.ListN.{get_or}
-use borrow.Author.Rules.{rules}
 use Rattle.fields.specs.Optional.{number_option}
 use Rattle.format.specs.Field.{index}
 use Rattle.format.specs.Codec.{O}
 use Rattle.format.specs.Format.{is_new, budget}
 use Rattle.sections.specs.Sections.{budget_of}
-use Rattle.sections.proofs.Lists.{Going, going_none, going_more, going_end}
-use Rattle.sections.proofs.Marks.{Small, Marked, none_marked, one_marked, place_below, index_small, budget_small}
+use Rattle.sections.proofs.Lists.{going_none, going_more, going_end}
+use Rattle.sections.proofs.Marks.{Small, none_marked, one_marked, place_below, index_small, budget_small}
 use Rattle.sections.proofs.budgets.read_budgets.Goals as goal
 use Rattle.sections.proofs.budgets.read_budgets.Goals.{After-mark_of-j, After-mark_of-k}
 
-pub loop-i-init : goal.loop-i-init
-loop-i-init c = ([], (going_none _ _ _ _ _ _, none_marked))
+pub loop-init : goal.loop-init
+loop-init c = ([], (going_none _ _ _ _ _ _, none_marked))
 
 at_mark : (c : After-mark_of-k) → c.mark_of-k.result < 501
 at_mark c = place_below (number_option c.optional_index-named.result.value) c.mark_of-k.ensures
@@ -38,10 +36,10 @@ offset_bounds-marks-j c = omega (arith, at_mark2 (goal.at.offset_bounds-marks-j 
 pub bounds-marks-j : goal.bounds-marks-j
 bounds-marks-j c = omega (arith, at_mark2 (goal.at.bounds-marks-j c).After-mark_of-j)
 
-pub loop-i-preserved : goal.loop-i-preserved
+pub loop-preserved : goal.loop-preserved
 unfolding budget_of
-loop-i-preserved c =
-    let l = c.loop-i in
+loop-preserved c =
+    let l = c.loop in
     let n = c.args.activities in
     let bytes = c.args.book.now in
     let before = l.invariant.0 in
@@ -53,10 +51,10 @@ loop-i-preserved c =
     let b = c.read_budget-b.ensures before new in
     let its : name ≡ ((budget n before).read bytes l.next).0.activity = ap (λ v. v.0.activity) b in
     let held : Small name = subst Small (sym its) (budget_small n before bytes l.next c.requires) in
-    (name ∷ before, (going_more l.invariant.1.0 c.loop-i-test.true b, rw c.mark_of-j.ensures (one_marked l.invariant.1.1 name held)))
+    (name ∷ before, (going_more l.invariant.1.0 c.loop-test.true b, rw c.mark_of-j.ensures (one_marked l.invariant.1.1 name held)))
 
 pub returns-then-count-eq0 : goal.returns-then-count-eq0
 returns-then-count-eq0 c = record { lead = c.field-lead.ensures; rest = going_end (going_none _ _ _ _ _ _) (omega (arith, c.if-count-eq0.true)) }
 
 pub returns : goal.returns
-returns c = record { lead = c.field-lead.ensures; rest = going_end c.loop-i.invariant.1.0 c.loop-i-test.false }
+returns c = record { lead = c.field-lead.ensures; rest = going_end c.loop.invariant.1.0 c.loop-test.false }

@@ -1,18 +1,14 @@
 -- `read_exceptions` meets its contract: each exception is read after the one before it.
-use Prim.Native.Nat.{ℕ, ◌-◌}
-use borrow.Author.Rules.{rules}
-use Rattle.format.specs.Book as book
-use Rattle.format.specs.Format.{exception}
 use Rattle.records.specs.Decoded.{exception_of}
-use Rattle.sections.proofs.Lists.{Going, going_none, going_more, going_end}
+use Rattle.sections.proofs.Lists.{going_none, going_more, going_end}
 use Rattle.sections.proofs.calendars.read_exceptions.Goals as goal
 
-pub loop-i-init : goal.loop-i-init
-loop-i-init c = going_none _ _ _ _ _ _
+pub loop-init : goal.loop-init
+loop-init c = going_none _ _ _ _ _ _
 
-pub loop-i-preserved : goal.loop-i-preserved
+pub loop-preserved : goal.loop-preserved
 unfolding exception_of
-loop-i-preserved c = going_more c.loop-i.invariant c.loop-i-test.true c.read_exception-e.ensures
+loop-preserved c = going_more c.loop.invariant c.loop-test.true c.read_exception-e.ensures
 
 pub returns : goal.returns
-returns c = record { lead = c.field-lead.ensures; rest = going_end c.loop-i.invariant c.loop-i-test.false }
+returns c = record { lead = c.field-lead.ensures; rest = going_end c.loop.invariant c.loop-test.false }

@@ -1,6 +1,5 @@
 -- `read_elements` meets its contract: the count, then as many elements.
 use native.Mathlib.Numerals.{add-one}
-use borrow.Author.Rules.{rules}
 use Rattle.sections.proofs.elements.read_elements.Goals as goal
 
 pub returns : goal.returns

@@ -1,7 +1,6 @@
 -- `skip` meets its contract: each kind of element is read by its own reader.
 use mathlib.Core.Path.{◌≡◌, ap}
 use Rattle.format.specs.declared.Pos.{Pos}
-use borrow.Author.Rules.{rules}
 use Rattle.sections.proofs.elements.skip.Goals as goal
 
 -- where reading goes on

@@ -1,8 +1,5 @@
 -- `skip_all` meets its contract: one element a turn.
-use borrow.Author.Rules.{rules}
-use Rattle.format.specs.Codec.{stay}
-use Rattle.sections.specs.Elements.{codec_of}
-use Rattle.sections.proofs.Lists.{Going, going_none, going_more, going_end, with_value}
+use Rattle.sections.proofs.Lists.{going_none, going_more, going_end, with_value}
 use Rattle.sections.proofs.elements.skip_all.Goals as goal
 
 pub loop-init : goal.loop-init

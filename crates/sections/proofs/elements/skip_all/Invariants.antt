@@ -1,8 +1,7 @@
 -- `skip_all` meets its contract: one element a turn.
-use borrow.Author.Rules.{rules}
 use Rattle.format.specs.Codec.{stay}
 use Rattle.sections.specs.Elements.{codec_of}
-use Rattle.sections.proofs.Lists.{Going, going_none, going_more, going_end, with_value}
+use Rattle.sections.proofs.Lists.{Going}
 use Rattle.sections.proofs.elements.skip_all.Given as goal
 
 abbrev pub invariant-loop : goal.invariant-loop

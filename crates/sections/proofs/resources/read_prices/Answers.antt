@@ -1,16 +1,12 @@
 -- `read_prices` meets its contract: one price a turn.
-use Prim.Native.Nat.{◌-◌}
-use borrow.Author.Rules.{rules}
-use Rattle.format.specs.Codec.{stay}
-use Rattle.format.specs.Format.{price}
-use Rattle.sections.proofs.Lists.{Going, going_none, going_more, going_end}
+use Rattle.sections.proofs.Lists.{going_none, going_more, going_end}
 use Rattle.sections.proofs.resources.read_prices.Goals as goal
 
-pub loop-i-init : goal.loop-i-init
-loop-i-init c = going_none _ _ _ _ _ _
+pub loop-init : goal.loop-init
+loop-init c = going_none _ _ _ _ _ _
 
-pub loop-i-preserved : goal.loop-i-preserved
-loop-i-preserved c = going_more c.loop-i.invariant c.loop-i-test.true c.read_price-p.ensures
+pub loop-preserved : goal.loop-preserved
+loop-preserved c = going_more c.loop.invariant c.loop-test.true c.read_price-next.ensures
 
 pub returns : goal.returns
-returns c = record { lead = c.field-lead.ensures; rest = going_end c.loop-i.invariant c.loop-i-test.false }
+returns c = record { lead = c.field-lead.ensures; rest = going_end c.loop.invariant c.loop-test.false }
