@@ -61,43 +61,27 @@ pub fn read_activity(book: &[u8], at: Pos, calendars: u64, activities: u64) -> A
     ensures { (activity_of result, result.next) ≡ (layout.activity calendars activities).read book.now at }
 {
     let parent = optional_index(book, at, activities);
-    let at1 = parent.next;
-    let calendar = optional_index(book, at1, calendars);
-    let at2 = calendar.next;
-    let status = field(book, at2, 0, 3, OUT_OF_RANGE);
-    let at3 = status.next;
-    let start = date(book, at3);
-    let at4 = start.next;
-    let finish = date(book, at4);
-    let at5 = finish.next;
-    let started = optional_date(book, at5);
-    let at6 = started.next;
-    let finished = optional_date(book, at6);
-    let at7 = finished.next;
-    let working = minutes(book, at7);
-    let at8 = working.next;
-    let remaining = minutes(book, at8);
-    let at9 = remaining.next;
-    let percent = optional_amount(book, at9);
-    let next = percent.next;
-    let parent = parent.value;
-    let calendar = calendar.value;
-    let status = status_of(status.value);
-    let started = started.value;
-    let finished = finished.value;
-    let percent = percent.value;
+    let calendar = optional_index(book, parent.next, calendars);
+    let status = field(book, calendar.next, 0, 3, OUT_OF_RANGE);
+    let start = date(book, status.next);
+    let finish = date(book, start.next);
+    let started = optional_date(book, finish.next);
+    let finished = optional_date(book, started.next);
+    let working = minutes(book, finished.next);
+    let remaining = minutes(book, working.next);
+    let percent = optional_amount(book, remaining.next);
     Activity {
-        parent,
-        calendar,
-        status,
+        parent: parent.value,
+        calendar: calendar.value,
+        status: status_of(status.value),
         start: start.value,
         finish: finish.value,
-        started,
-        finished,
+        started: started.value,
+        finished: finished.value,
         working: working.value,
         remaining: remaining.value,
-        percent,
-        next,
+        percent: percent.value,
+        next: percent.next,
     }
 }
 
@@ -106,23 +90,17 @@ pub fn read_assignment(book: &[u8], at: Pos, activities: u64, resources: u64) ->
     ensures { (assignment_of result, result.next) ≡ (layout.assignment activities resources).read book.now at }
 {
     let activity = index(book, at, activities);
-    let at1 = activity.next;
-    let resource = optional_index(book, at1, resources);
-    let at2 = resource.next;
-    let planned = amount(book, at2);
-    let at3 = planned.next;
-    let actual = amount(book, at3);
-    let at4 = actual.next;
-    let remaining = amount(book, at4);
-    let next = remaining.next;
-    let resource = resource.value;
+    let resource = optional_index(book, activity.next, resources);
+    let planned = amount(book, resource.next);
+    let actual = amount(book, planned.next);
+    let remaining = amount(book, actual.next);
     Assignment {
         activity: activity.value,
-        resource,
+        resource: resource.value,
         planned: planned.value,
         actual: actual.value,
         remaining: remaining.value,
-        next,
+        next: remaining.next,
     }
 }
 
@@ -131,23 +109,17 @@ pub fn read_expense(book: &[u8], at: Pos, activities: u64) -> Expense
     ensures { (expense_of result, result.next) ≡ (layout.expense activities).read book.now at }
 {
     let activity = index(book, at, activities);
-    let at1 = activity.next;
-    let accrual = field(book, at1, 0, 3, OUT_OF_RANGE);
-    let at2 = accrual.next;
-    let planned = amount(book, at2);
-    let at3 = planned.next;
-    let actual = amount(book, at3);
-    let at4 = actual.next;
-    let remaining = amount(book, at4);
-    let next = remaining.next;
-    let accrual = accrual_of(accrual.value);
+    let accrual = field(book, activity.next, 0, 3, OUT_OF_RANGE);
+    let planned = amount(book, accrual.next);
+    let actual = amount(book, planned.next);
+    let remaining = amount(book, actual.next);
     Expense {
         activity: activity.value,
-        accrual,
+        accrual: accrual_of(accrual.value),
         planned: planned.value,
         actual: actual.value,
         remaining: remaining.value,
-        next,
+        next: remaining.next,
     }
 }
 
@@ -156,21 +128,16 @@ pub fn read_baseline_line(book: &[u8], at: Pos, activities: u64) -> BaselineLine
     ensures { (baseline_line_of result, result.next) ≡ (layout.baseline_line activities).read book.now at }
 {
     let activity = index(book, at, activities);
-    let at1 = activity.next;
-    let start = date(book, at1);
-    let at2 = start.next;
-    let finish = date(book, at2);
-    let at3 = finish.next;
-    let minutes = minutes(book, at3);
-    let at4 = minutes.next;
-    let cost = amount(book, at4);
-    let next = cost.next;
+    let start = date(book, activity.next);
+    let finish = date(book, start.next);
+    let minutes = minutes(book, finish.next);
+    let cost = amount(book, minutes.next);
     BaselineLine {
         activity: activity.value,
         start: start.value,
         finish: finish.value,
         minutes: minutes.value,
         cost: cost.value,
-        next,
+        next: cost.next,
     }
 }

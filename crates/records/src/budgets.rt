@@ -56,14 +56,11 @@ pub fn read_budget_head(book: &[u8], at: Pos, activities: u64, new: bool) -> Bud
     let named = optional_index(book, at, activities);
     let p = place(at);
     let activity = named_once(named, new, p);
-    let at1 = activity.next;
-    let original = amount(book, at1);
-    let next = original.next;
-    let activity = activity.value;
+    let original = amount(book, activity.next);
     BudgetHead {
-        activity,
+        activity: activity.value,
         original: original.value,
-        next,
+        next: original.next,
     }
 }
 
@@ -72,17 +69,12 @@ pub fn read_budget_change(book: &[u8], at: Pos, activities: u64) -> BudgetChange
     ensures { (budget_change_of result, result.next) ≡ (layout.budget_change activities).read book.now at }
 {
     let activity = optional_index(book, at, activities);
-    let at1 = activity.next;
-    let change = amount(book, at1);
-    let at2 = change.next;
-    let status = field(book, at2, 0, 3, OUT_OF_RANGE);
-    let next = status.next;
-    let activity = activity.value;
-    let status = change_status_of(status.value);
+    let change = amount(book, activity.next);
+    let status = field(book, change.next, 0, 3, OUT_OF_RANGE);
     BudgetChange {
-        activity,
+        activity: activity.value,
         amount: change.value,
-        status,
-        next,
+        status: change_status_of(status.value),
+        next: status.next,
     }
 }

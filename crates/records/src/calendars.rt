@@ -30,14 +30,11 @@ pub fn read_calendar_head(book: &[u8], at: Pos) -> CalendarHead
     ensures { ((result.week, result.region), result.next) ≡ (codec.field (U 0 127) & region).read book.now at }
 {
     let week = field(book, at, 0, 128, OUT_OF_RANGE);
-    let at1 = week.next;
-    let region = field(book, at1, 0, 2, OUT_OF_RANGE);
-    let next = region.next;
-    let region = region_of(region.value);
+    let region = field(book, week.next, 0, 2, OUT_OF_RANGE);
     CalendarHead {
         week: week.value,
-        region,
-        next,
+        region: region_of(region.value),
+        next: region.next,
     }
 }
 
@@ -46,13 +43,10 @@ pub fn read_exception(book: &[u8], at: Pos, before: u64) -> Exception
     ensures { (exception_of result, result.next) ≡ (layout.exception before).read book.now at }
 {
     let day = rising(book, at, before);
-    let at1 = day.next;
-    let working = field(book, at1, 0, 2, OUT_OF_RANGE);
-    let next = working.next;
-    let working = working_of(working.value);
+    let working = field(book, day.next, 0, 2, OUT_OF_RANGE);
     Exception {
         day: day.value,
-        working,
-        next,
+        working: working_of(working.value),
+        next: working.next,
     }
 }

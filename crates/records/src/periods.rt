@@ -23,19 +23,12 @@ pub fn read_period_record(book: &[u8], at: Pos, periods: u64, activities: u64) -
     ensures { (period_record_of result, result.next) ≡ (layout.period_record periods activities).read book.now at }
 {
     let period = index(book, at, periods);
-    let at1 = period.next;
-    let activity = index(book, at1, activities);
-    let at2 = activity.next;
-    let earned = amount(book, at2);
-    let at3 = earned.next;
-    let labor = amount(book, at3);
-    let at4 = labor.next;
-    let nonlabor = amount(book, at4);
-    let at5 = nonlabor.next;
-    let material = amount(book, at5);
-    let at6 = material.next;
-    let expense = amount(book, at6);
-    let next = expense.next;
+    let activity = index(book, period.next, activities);
+    let earned = amount(book, activity.next);
+    let labor = amount(book, earned.next);
+    let nonlabor = amount(book, labor.next);
+    let material = amount(book, nonlabor.next);
+    let expense = amount(book, material.next);
     PeriodRecord {
         period: period.value,
         activity: activity.value,
@@ -44,6 +37,6 @@ pub fn read_period_record(book: &[u8], at: Pos, periods: u64, activities: u64) -
         nonlabor: nonlabor.value,
         material: material.value,
         expense: expense.value,
-        next,
+        next: expense.next,
     }
 }

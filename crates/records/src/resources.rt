@@ -22,22 +22,20 @@ pub fn read_resource_head(book: &[u8], at: Pos) -> Read<ResourceKind>
     ensures { (result.value, result.next) ≡ resource_kind.read book.now at }
 {
     let kind = field(book, at, 0, 3, OUT_OF_RANGE);
-    let next = kind.next;
-    let value = resource_kind_of(kind.value);
-    Read { value, next }
+    Read {
+        value: resource_kind_of(kind.value),
+        next: kind.next,
+    }
 }
 
 pub fn read_price(book: &[u8], at: Pos) -> Price
     ensures { (price_of result, result.next) ≡ (layout.price).read book.now at }
 {
     let from = optional_date(book, at);
-    let at1 = from.next;
-    let price = amount(book, at1);
-    let next = price.next;
-    let from = from.value;
+    let price = amount(book, from.next);
     Price {
-        from,
+        from: from.value,
         amount: price.value,
-        next,
+        next: price.next,
     }
 }

@@ -12,15 +12,15 @@ pub fn read_technique(book: &[u8], at: Pos) -> Read<EvTechnique>
     ensures { (result.value, result.next) ≡ (enumeration.technique).read book.now at }
 {
     let number = field(book, at, 0, 6, OUT_OF_RANGE);
-    let next = number.next;
     if number.value == 5 {
-        let share = amount(book, next);
-        let end = share.next;
+        let share = amount(book, number.next);
         return Read {
             value: EvTechnique::Custom(share.value),
-            next: end,
+            next: share.next,
         };
     }
-    let value = technique_of(number.value);
-    Read { value, next }
+    Read {
+        value: technique_of(number.value),
+        next: number.next,
+    }
 }

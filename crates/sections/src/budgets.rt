@@ -42,15 +42,12 @@ pub fn read_budget(book: &[u8], at: Pos, activities: u64, new: bool) -> Budget
     ensures { (before : List (Option ℕ)) → new ≡ layout.is_new before ((O (kind.index activities)).read book.now at).0 → (budget_of book.now result, result.next) ≡ (layout.budget activities before).read book.now at }
 {
     let head = read_budget_head(book, at, activities, new);
-    let at1 = head.next;
-    let plan = read_amounts(book, at1, 120);
-    let next = plan.next;
-    let activity = head.activity;
+    let plan = read_amounts(book, head.next, 120);
     Budget {
-        activity,
+        activity: head.activity,
         original: head.original,
         plan,
-        next,
+        next: plan.next,
     }
 }
 
@@ -83,11 +80,9 @@ pub fn read_budgets(book: &[u8], at: Pos, activities: u64) -> Section
     let mut next = first;
     for _ in 0..count {
         let named = optional_index(book, next, activities);
-        let name = named.value;
-        let k = mark_of(name);
+        let k = mark_of(named.value);
         let b = read_budget(book, next, activities, marks[k] == 0);
-        let activity = b.activity;
-        let j = mark_of(activity);
+        let j = mark_of(b.activity);
         marks[j] = 1;
         next = b.next;
     }

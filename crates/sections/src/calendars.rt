@@ -58,20 +58,15 @@ pub fn read_calendar(book: &[u8], at: Pos) -> Calendar
     ensures { (calendar_of book.now result, result.next) ≡ (layout.calendar).read book.now at }
 {
     let head = read_calendar_head(book, at);
-    let at1 = head.next;
-    let holidays = read_days(book, at1);
-    let at2 = holidays.next;
-    let extra = read_days(book, at2);
-    let at3 = extra.next;
-    let exceptions = read_exceptions(book, at3);
-    let next = exceptions.next;
-    let region = head.region;
+    let holidays = read_days(book, head.next);
+    let extra = read_days(book, holidays.next);
+    let exceptions = read_exceptions(book, extra.next);
     Calendar {
         week: head.week,
-        region,
+        region: head.region,
         holidays,
         extra,
         exceptions,
-        next,
+        next: exceptions.next,
     }
 }

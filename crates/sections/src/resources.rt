@@ -35,9 +35,10 @@ pub fn read_resource(book: &[u8], at: Pos) -> Resource
     ensures { (resource_of book.now result, result.next) ≡ (layout.resource).read book.now at }
 {
     let head = read_resource_head(book, at);
-    let at1 = head.next;
-    let prices = read_prices(book, at1);
-    let next = prices.next;
-    let kind = head.value;
-    Resource { kind, prices, next }
+    let prices = read_prices(book, head.next);
+    Resource {
+        kind: head.value,
+        prices,
+        next: prices.next,
+    }
 }

@@ -11,4 +11,4 @@ unfolding exception_of exception working ◌&◌
 returns c =
     iso_read _ _ _ _ _ _ _
     (both_read _ _ _ _ c.rising-day.ensures
-    (enum_read _ _ _ _ _ _ _ c.field-working.ensures c.working_of-working.ensures))
+    (enum_read _ _ _ _ _ _ _ c.field-working.ensures c.working_of.ensures))

@@ -14,4 +14,4 @@ returns-then-number-eq5 c =
 
 pub returns : goal.returns
 unfolding technique technique_of iso mapped both given
-returns c = rw (c.technique_of-value.ensures, ← c.field-number.ensures, ne_eqb _ _ c.if-number-eq5.false)
+returns c = rw (c.technique_of.ensures, ← c.field-number.ensures, ne_eqb _ _ c.if-number-eq5.false)
