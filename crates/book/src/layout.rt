@@ -67,22 +67,15 @@ fn read_header(book: &[u8], at: Pos) -> Header
     ensures { IsHeader book.now at result }
 {
     let edition = field(book, at, 1, 2, OUT_OF_RANGE);
-    let at1 = edition.next;
-    let date = optional_date(book, at1);
-    let at2 = date.next;
-    let technique = read_technique(book, at2);
-    let at3 = technique.next;
-    let forecast = field(book, at3, 0, 4, OUT_OF_RANGE);
-    let next = forecast.next;
-    let date = date.value;
-    let technique = technique.value;
-    let forecast = forecast_of(forecast.value);
+    let date = optional_date(book, edition.next);
+    let technique = read_technique(book, date.next);
+    let forecast = field(book, technique.next, 0, 4, OUT_OF_RANGE);
     Header {
         edition: edition.value,
-        date,
-        technique,
-        forecast,
-        next,
+        date: date.value,
+        technique: technique.value,
+        forecast: forecast_of(forecast.value),
+        next: forecast.next,
     }
 }
 
@@ -91,21 +84,17 @@ fn read_plan(book: &[u8], at: Pos) -> Plan
     ensures { IsPlan book.now at result }
 {
     let calendars = read_elements(book, at, Element::Calendar, 1, 16);
-    let at1 = calendars.next;
-    let activities = read_activities(book, at1, calendars.count);
-    let at2 = activities.next;
-    let resources = read_elements(book, at2, Element::Resource, 0, 200);
-    let at3 = resources.next;
+    let activities = read_activities(book, calendars.next, calendars.count);
+    let resources = read_elements(book, activities.next, Element::Resource, 0, 200);
     let assignment = Element::Assignment {
         activities: activities.count,
         resources: resources.count,
     };
-    let assignments = read_elements(book, at3, assignment, 0, 2000);
-    let at4 = assignments.next;
+    let assignments = read_elements(book, resources.next, assignment, 0, 2000);
     let expense = Element::Expense {
         activities: activities.count,
     };
-    let expenses = read_elements(book, at4, expense, 0, 1000);
+    let expenses = read_elements(book, assignments.next, expense, 0, 1000);
     Plan {
         calendars,
         activities,
@@ -120,26 +109,24 @@ fn read_baseline(book: &[u8], at: Pos, activities: u64) -> Baseline
     ensures { IsBaseline book.now activities at result }
 {
     let mark = field(book, at, 0, 2, OUT_OF_RANGE);
-    let at1 = mark.next;
     if mark.value == 1 {
         let line = Element::BaselineLine { activities };
-        let lines = read_elements(book, at1, line, 0, 1000);
-        let next = lines.next;
+        let lines = read_elements(book, mark.next, line, 0, 1000);
         return Baseline {
             present: true,
             lines,
-            next,
+            next: lines.next,
         };
     }
     let none = Section {
         count: 0,
-        first: at1,
-        next: at1,
+        first: mark.next,
+        next: mark.next,
     };
     Baseline {
         present: false,
         lines: none,
-        next: at1,
+        next: mark.next,
     }
 }
 
@@ -149,21 +136,16 @@ fn read_ledger(book: &[u8], at: Pos, activities: u64) -> Ledger
     ensures { IsLedger book.now activities at result }
 {
     let baseline = read_baseline(book, at, activities);
-    let at1 = baseline.next;
-    let budgets = read_budgets(book, at1, activities);
-    let at2 = budgets.next;
+    let budgets = read_budgets(book, baseline.next, activities);
     let change = Element::BudgetChange { activities };
-    let log = read_elements(book, at2, change, 0, 500);
-    let at3 = log.next;
-    let funds = read_amounts(book, at3, 100);
-    let at4 = funds.next;
-    let periods = read_elements(book, at4, Element::Period, 0, 240);
-    let at5 = periods.next;
+    let log = read_elements(book, budgets.next, change, 0, 500);
+    let funds = read_amounts(book, log.next, 100);
+    let periods = read_elements(book, funds.next, Element::Period, 0, 240);
     let record = Element::PeriodRecord {
         periods: periods.count,
         activities,
     };
-    let records = read_elements(book, at5, record, 0, 2000);
+    let records = read_elements(book, periods.next, record, 0, 2000);
     Ledger {
         baseline,
         budgets,
@@ -205,20 +187,13 @@ pub fn read_layout(book: &[u8]) -> Layout
 {
     let at = begin(book);
     let header = read_header(book, at);
-    let at1 = header.next;
-    let plan = read_plan(book, at1);
-    let activities = plan.activities;
-    let expenses = plan.expenses;
-    let at2 = expenses.next;
-    let ledger = read_ledger(book, at2, activities.count);
-    let records = ledger.records;
-    let at3 = records.next;
-    let last = end(book, at3);
+    let plan = read_plan(book, header.next);
+    let ledger = read_ledger(book, plan.expenses.next, plan.activities.count);
     Layout {
         header,
         plan,
         ledger,
-        end: last,
+        end: end(book, ledger.records.next),
     }
 }
 
@@ -237,6 +212,5 @@ pub fn judge(book: &[u8]) -> Answer
     ensures { result ≡ verdict.answer_of (verdict.verdict book.now) }
 {
     let layout = read_layout(book);
-    let last = layout.end;
-    answer(last)
+    answer(layout.end)
 }

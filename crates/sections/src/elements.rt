@@ -71,12 +71,10 @@ pub fn read_elements(book: &[u8], at: Pos, element: Element, low: u64, most: u64
     ensures { IsAlike low most (codec_of element) book.now at result }
 {
     let lead = field(book, at, low, most + 1, COUNT_OUT_OF_RANGE);
-    let first = lead.next;
-    let next = skip_all(book, first, element, lead.value);
     Section {
         count: lead.value,
-        first,
-        next,
+        first: lead.next,
+        next: skip_all(book, lead.next, element, lead.value),
     }
 }
 
@@ -85,15 +83,13 @@ pub fn read_activities(book: &[u8], at: Pos, calendars: u64) -> Section
     ensures { IsAlike 0 500 (layout.activity calendars result.count) book.now at result }
 {
     let lead = field(book, at, 0, 501, COUNT_OUT_OF_RANGE);
-    let first = lead.next;
     let element = Element::Activity {
         calendars,
         activities: lead.value,
     };
-    let next = skip_all(book, first, element, lead.value);
     Section {
         count: lead.value,
-        first,
-        next,
+        first: lead.next,
+        next: skip_all(book, lead.next, element, lead.value),
     }
 }

@@ -1,5 +1,4 @@
 -- `answer` meets its contract, by the position.
-use borrow.Author.Rules.{rules}
 use Rattle.format.specs.Verdict.{answer_of}
 use Rattle.book.proofs.layout.answer.Goals as goal
 

@@ -1,5 +1,4 @@
 -- `end` meets its contract: a refused position stays, any other is compared with the length.
-use borrow.Author.Rules.{rules}
 use borrow.Author.Tests.{lt-ltb, le-ltb}
 use Rattle.format.specs.Verdict.{end}
 use Rattle.book.proofs.layout.end.Goals as goal

@@ -24,5 +24,5 @@ returns c =
       header = rw c.begin-at.ensures at c.read_header-header.ensures;
       plan = c.read_plan-plan.ensures;
       ledger = c.read_ledger-ledger.ensures;
-      last = c.end-last.ensures;
+      last = c.end.ensures;
     }
