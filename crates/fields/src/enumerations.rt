@@ -6,102 +6,89 @@ ghost use Rattle.format.specs.Enumeration.{accrual_of, change_status_of, region_
 
 use format::{Accrual, ChangeStatus, EtcTechnique, EvTechnique, Region, ResourceKind, Status};
 
+#[tactic(auto, unfolding(format::specs::Enumeration::status_of))]
 pub fn status_of(v: u64) -> Status
     ensures { result ≡ status_of v }
 {
-    if v == 0 {
-        return Status::NotStarted;
+    match v {
+        0 => Status::NotStarted,
+        1 => Status::InProgress,
+        _ => Status::Completed,
     }
-    if v == 1 {
-        return Status::InProgress;
-    }
-    Status::Completed
 }
 
+#[tactic(auto, unfolding(format::specs::Enumeration::forecast_of))]
 pub fn forecast_of(v: u64) -> EtcTechnique
     ensures { result ≡ forecast_of v }
 {
-    if v == 0 {
-        return EtcTechnique::Remaining;
+    match v {
+        0 => EtcTechnique::Remaining,
+        1 => EtcTechnique::Planned,
+        2 => EtcTechnique::Cpi,
+        _ => EtcTechnique::CpiSpi,
     }
-    if v == 1 {
-        return EtcTechnique::Planned;
-    }
-    if v == 2 {
-        return EtcTechnique::Cpi;
-    }
-    EtcTechnique::CpiSpi
 }
 
+#[tactic(auto, unfolding(format::specs::Enumeration::resource_kind_of))]
 pub fn resource_kind_of(v: u64) -> ResourceKind
     ensures { result ≡ resource_kind_of v }
 {
-    if v == 0 {
-        return ResourceKind::Labor;
+    match v {
+        0 => ResourceKind::Labor,
+        1 => ResourceKind::Nonlabor,
+        _ => ResourceKind::Material,
     }
-    if v == 1 {
-        return ResourceKind::Nonlabor;
-    }
-    ResourceKind::Material
 }
 
+#[tactic(auto, unfolding(format::specs::Enumeration::accrual_of))]
 pub fn accrual_of(v: u64) -> Accrual
     ensures { result ≡ accrual_of v }
 {
-    if v == 0 {
-        return Accrual::Start;
+    match v {
+        0 => Accrual::Start,
+        1 => Accrual::End,
+        _ => Accrual::Uniform,
     }
-    if v == 1 {
-        return Accrual::End;
-    }
-    Accrual::Uniform
 }
 
+#[tactic(auto, unfolding(format::specs::Enumeration::change_status_of))]
 pub fn change_status_of(v: u64) -> ChangeStatus
     ensures { result ≡ change_status_of v }
 {
-    if v == 0 {
-        return ChangeStatus::Pending;
+    match v {
+        0 => ChangeStatus::Pending,
+        1 => ChangeStatus::Approved,
+        _ => ChangeStatus::NotApproved,
     }
-    if v == 1 {
-        return ChangeStatus::Approved;
-    }
-    ChangeStatus::NotApproved
 }
 
+#[tactic(auto, unfolding(format::specs::Enumeration::region_of))]
 pub fn region_of(v: u64) -> Region
     ensures { result ≡ region_of v }
 {
-    if v == 0 {
-        return Region::None;
+    match v {
+        0 => Region::None,
+        _ => Region::Brazil,
     }
-    Region::Brazil
 }
 
+#[tactic(auto, unfolding(format::specs::Enumeration::working_of))]
 pub fn working_of(v: u64) -> bool
     ensures { result ≡ working_of v }
 {
-    if v == 0 {
-        return false;
-    }
-    true
+    v != 0
 }
 
 // A technique without a share.
+#[tactic(auto, unfolding(format::specs::Enumeration::technique_of))]
 pub fn technique_of(v: u64) -> EvTechnique
     ensures { result ≡ technique_of v none }
 {
-    if v == 0 {
-        return EvTechnique::Physical;
+    match v {
+        0 => EvTechnique::Physical,
+        1 => EvTechnique::Duration,
+        2 => EvTechnique::Units,
+        3 => EvTechnique::ZeroHundred,
+        _ => EvTechnique::FiftyFifty,
     }
-    if v == 1 {
-        return EvTechnique::Duration;
-    }
-    if v == 2 {
-        return EvTechnique::Units;
-    }
-    if v == 3 {
-        return EvTechnique::ZeroHundred;
-    }
-    EvTechnique::FiftyFifty
 }
