@@ -5,6 +5,7 @@ use mathlib.Core.Path.{◌≡◌, refl}
 use mathlib.Core.List.{List}
 use mathlib.Core.Option.{none, some}
 use borrow.Author.Tests.{lt-ltb, le-ltb}
+use Rattle.std.proofs.Common.{Some}
 use Rattle.format.specs.declared.Pos.TheVariants.{At, Refused}
 use Rattle.format.specs.declared.Num.TheVariants.{Value}
 use Rattle.format.specs.Number.{number_at, in_range}
@@ -23,13 +24,14 @@ in_range_lem :
 unfolding ranged found in_range
 in_range_lem s i v next low bound code place e l b = rw (← e, le-ltb _ _ l, lt-ltb _ _ b)
 
-module _ (s : List ℕ) (i : ℕ) (n : Few) (r : IsFew s i n) where
-  pub any_few : (n.next ≡ 0 → ⊥) → (n.value, At n.next) ≡ number s (At i)
+-- a number of few bytes
+module _ (s : List ℕ) (i : ℕ) (n : Few) (r : IsFew s i (Some n)) where
+  pub any_few : (n.value, At n.next) ≡ number s (At i)
   unfolding number found
-  any_few h = rw (← r h)
+  any_few = rw (← r)
 
   pub ranged_few : (low bound code place : ℕ) → Fits n low bound → (n.value, At n.next) ≡ ranged low bound code place s (At i)
-  ranged_few low bound code place f = in_range_lem s i _ _ low bound code place (r f.read) f.least f.below
+  ranged_few low bound code place f = in_range_lem s i _ _ low bound code place r f.least f.below
 
 -- an O field whose mark is one byte
 module _ (s : List ℕ) (i mark : ℕ) (e : IsMark s i mark) where
@@ -41,7 +43,7 @@ module _ (s : List ℕ) (i mark : ℕ) (e : IsMark s i mark) where
     pub absent_few : mark ≡ 0 → (none, At (i + 1)) ≡ (O (range low bound 4)).read s (At i)
     absent_few z = absent (range low bound 4) s (At i) (mark_read (omega arith)) z
 
-    pub present_few : (n : Few) → mark ≡ 1 → IsFew s (i + 1) n → Fits n low bound → (some n.value, At n.next) ≡ (O (range low bound 4)).read s (At i)
+    pub present_few : (n : Few) → mark ≡ 1 → IsFew s (i + 1) (Some n) → Fits n low bound → (some n.value, At n.next) ≡ (O (range low bound 4)).read s (At i)
     unfolding range place_of
     present_few n z r f = present (range low bound 4) s (At i) (mark_read (omega arith)) (λ y. omega arith) (ranged_few s (i + 1) n r low bound 4 i f)
 

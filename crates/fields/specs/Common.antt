@@ -1,17 +1,17 @@
 -- The common way: numbers of few bytes.
-use Rattle.std.specs.Prelude.{ℕ, ◌+◌, ◌≤◌, ◌<◌, ◌≡◌, List, length, get_or}
+use Rattle.std.specs.Prelude.{ℕ, Option, ◌+◌, ◌≤◌, ◌<◌, ◌≡◌, List, length, get_or}
+use Rattle.std.specs.Option.{IfSome}
 use Rattle.format.specs.declared.Num.TheVariants.{Value}
 use Rattle.format.specs.Number.{number_at}
 use Rattle.fields.specs.declared.numbers.Few.{Few}
 use Rattle.fields.specs.declared.numbers.Ending.{Ending}
 
 -- what was read, if anything, is the number that begins at `place`
-abbrev pub IsFew : List ℕ → ℕ → Few → Type 0
-IsFew s place r = (r.next ≡ 0 → ⊥) → Value r.value r.next ≡ number_at s place
+abbrev pub IsFew : List ℕ → ℕ → Option Few → Type 0
+IsFew s place r = IfSome r (λ n. Value n.value n.next ≡ number_at s place)
 
--- a number was read, and it is from `low` to below `bound`
+-- the number is from `low` to below `bound`
 pub record Fits (n : Few) (low bound : ℕ) : Type 0 where
-  pub read : n.next ≡ 0 → ⊥
   pub least : low ≤ n.value
   pub below : n.value < bound
 

@@ -61,17 +61,11 @@ fn within(n: Num, low: u64, bound: u64, code: u64, place: usize) -> Num
     }
 }
 
-// Whether a number was read, from `low` to below `bound`.
+// Whether the number is from `low` to below `bound`.
 fn fits(n: Few, low: u64, bound: u64) -> bool
     ensures { result ≡ true → Fits n low bound }
 {
-    if n.next == 0 {
-        return false;
-    }
-    if n.value < low {
-        return false;
-    }
-    n.value < bound
+    low <= n.value && n.value < bound
 }
 
 // Any number.
@@ -80,8 +74,7 @@ pub fn any_number(book: &[u8], at: Pos) -> Read<u64>
 {
     match at {
         Pos::At(i) => {
-            let n = short(book, i);
-            if n.next != 0 {
+            if let Some(n) = short(book, i) {
                 return Read {
                     value: n.value,
                     next: Pos::At(n.next),
@@ -102,12 +95,13 @@ pub fn ranged(book: &[u8], at: Pos, place: usize, low: u64, bound: u64, code: u6
 {
     match at {
         Pos::At(i) => {
-            let n = short(book, i);
-            if fits(n, low, bound) {
-                return Read {
-                    value: n.value,
-                    next: Pos::At(n.next),
-                };
+            if let Some(n) = short(book, i) {
+                if fits(n, low, bound) {
+                    return Read {
+                        value: n.value,
+                        next: Pos::At(n.next),
+                    };
+                }
             }
             let n = number(book, i);
             found(within(n, low, bound, code, place))
@@ -208,12 +202,13 @@ pub fn optional_date(book: &[u8], at: Pos) -> Read<OptionalNumber>
                 };
             }
             if mark == 1 {
-                let n = short(book, i + 1);
-                if fits(n, 10957, 47482) {
-                    return Read {
-                        value: OptionalNumber::Present(n.value),
-                        next: Pos::At(n.next),
-                    };
+                if let Some(n) = short(book, i + 1) {
+                    if fits(n, 10957, 47482) {
+                        return Read {
+                            value: OptionalNumber::Present(n.value),
+                            next: Pos::At(n.next),
+                        };
+                    }
                 }
             }
             optional(book, i, 10957, 47482)
@@ -246,12 +241,13 @@ pub fn optional_index(book: &[u8], at: Pos, named: u64) -> Read<OptionalNumber>
                 };
             }
             if mark == 1 {
-                let n = brief(book, i + 1);
-                if fits(n, 0, named) {
-                    return Read {
-                        value: OptionalNumber::Present(n.value),
-                        next: Pos::At(n.next),
-                    };
+                if let Some(n) = brief(book, i + 1) {
+                    if fits(n, 0, named) {
+                        return Read {
+                            value: OptionalNumber::Present(n.value),
+                            next: Pos::At(n.next),
+                        };
+                    }
                 }
             }
             optional(book, i, 0, named)

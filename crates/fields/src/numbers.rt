@@ -5,15 +5,12 @@ ghost use Rattle.fields.specs.Common.{IsFew, IsMark, Begun, IsEnding};
 
 use format::{ENDS_EARLY, NOT_SHORTEST, Num};
 
-// A number of few bytes, and the place after it, which is not 0.
+// A number of few bytes, and the place after it.
 #[derive(Clone, Copy)]
 pub struct Few {
     pub value: u64,
     pub next: usize,
 }
-
-// A number that is to be read by `number`.
-const LONGER: Few = Few { value: 0, next: 0 };
 
 // What the bytes of a number come to, and the place after them, if `last` ends it.
 #[derive(Clone, Copy)]
@@ -90,29 +87,29 @@ pub fn mark_at(book: &[u8], place: usize) -> u64
     2
 }
 
-// The number that begins at `place`, where it has one or two bytes.
-pub fn brief(book: &[u8], place: usize) -> Few
+// The number that begins at `place`, where it has one or two bytes; any other is read by `number`.
+pub fn brief(book: &[u8], place: usize) -> Option<Few>
     requires { place + 1 < length book.now }
     ensures { IsFew book.now place result }
 {
     let first = wide(book[place]);
     if first < 128 {
-        return Few {
+        return Some(Few {
             value: first,
             next: place + 1,
-        };
+        });
     }
     let second = wide(book[place + 1]);
     if second == 0 {
-        return LONGER;
+        return None;
     }
     if second < 128 {
-        return Few {
+        return Some(Few {
             value: first - 128 + 128 * second,
             next: place + 2,
-        };
+        });
     }
-    LONGER
+    None
 }
 
 // The bytes of a number to one below 128, or to the fourth. The first is `first`, which is not below 128.
@@ -147,28 +144,28 @@ fn behind(book: &[u8], place: usize, first: u64) -> Ending
 }
 
 // The number that begins at `place`, where it has one to four bytes and at least four are left.
-pub fn short(book: &[u8], place: usize) -> Few
+pub fn short(book: &[u8], place: usize) -> Option<Few>
     ensures { IsFew book.now place result }
 {
     if far(book) <= place {
-        return LONGER;
+        return None;
     }
     let first = wide(book[place]);
     if first < 128 {
-        return Few {
+        return Some(Few {
             value: first,
             next: place + 1,
-        };
+        });
     }
     let n = behind(book, place, first);
     if n.last == 0 {
-        return LONGER;
+        return None;
     }
     if n.last < 128 {
-        return Few {
+        return Some(Few {
             value: n.value,
             next: n.next,
-        };
+        });
     }
-    LONGER
+    None
 }

@@ -4,13 +4,12 @@ use Rattle.format.specs.Reader.{number}
 use Rattle.fields.proofs.Common.{any_few}
 use Rattle.fields.proofs.kinds.any_number.Goals as goal
 
-pub returns-then-n-ne0 : goal.returns-then-n-ne0
-returns-then-n-ne0 c =
-    rw c.in-At.is (any_few _ _ _ c.short-n.ensures c.if-n-ne0.true)
+pub returns-in-Some : goal.returns-in-Some
+returns-in-Some c = rw c.in-At.is (any_few _ _ c.in-Some.n c.in-Some.ensures)
 
-pub returns-else-n-ne0 : goal.returns-else-n-ne0
+pub returns-in_default : goal.returns-in_default
 unfolding number
-returns-else-n-ne0 c = rw (c.in-At.is, ← c.number.ensures) c.found.ensures
+returns-in_default c = rw (c.in-At.is, ← c.number.ensures) c.found.ensures
 
 pub returns-in-Refused : goal.returns-in-Refused
 unfolding number

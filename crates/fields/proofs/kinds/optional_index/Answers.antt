@@ -14,13 +14,13 @@ returns-then-mark-eq0 c =
 pub overflow_add-i : goal.overflow_add-i
 overflow_add-i c = omega (arith, (c.mark_at-mark.ensures (omega arith)).inside)
 
-pub brief-n-requires : goal.brief-n-requires
-brief-n-requires c = omega (arith, (c.mark_at-mark.ensures (omega arith)).inside)
+pub brief-requires : goal.brief-requires
+brief-requires c = omega (arith, (c.mark_at-mark.ensures (omega arith)).inside)
 
 pub returns-then-fits : goal.returns-then-fits
 returns-then-fits c =
     rw c.in-At.is
-    (present_few _ _ _ (c.mark_at-mark.ensures (omega arith)) _ _ _ c.if-mark-eq1.true c.brief-n.ensures (c.fits.ensures c.if-fits.true))
+    (present_few _ _ _ (c.mark_at-mark.ensures (omega arith)) _ _ c.in-Some.n c.if-mark-eq1.true c.in-Some.ensures (c.fits.ensures c.if-fits.true))
 
 pub returns-after-mark-eq1 : goal.returns-after-mark-eq1
 returns-after-mark-eq1 c = rw c.in-At.is c.optional.ensures

@@ -6,11 +6,11 @@ use Rattle.fields.proofs.kinds.ranged.Goals as goal
 
 pub returns-then-fits : goal.returns-then-fits
 returns-then-fits c =
-    rw c.in-At.is (ranged_few _ _ _ c.short-n.ensures _ _ _ _ (c.fits.ensures c.if-fits.true))
+    rw c.in-At.is (ranged_few _ _ c.in-Some.n c.in-Some.ensures _ _ _ _ (c.fits.ensures c.if-fits.true))
 
-pub returns-else-fits : goal.returns-else-fits
+pub returns-after-short : goal.returns-after-short
 unfolding ranged
-returns-else-fits c =
+returns-after-short c =
     rw (c.in-At.is, ← c.number-n.ensures, ← c.within.ensures) c.found.ensures
 
 pub returns-in-Refused : goal.returns-in-Refused

@@ -8,10 +8,7 @@ use Rattle.fields.proofs.numbers.brief.Goals as goal
 use Rattle.fields.proofs.numbers.brief.Goals.{Then-second-lt128}
 
 pub returns-then-first-lt128 : goal.returns-then-first-lt128
-returns-then-first-lt128 c h = one_byte _ _ _ (omega arith) c.wide-first.ensures (omega arith)
-
-pub returns-then-second-eq0 : goal.returns-then-second-eq0
-returns-then-second-eq0 c h = absurd (h refl)
+returns-then-first-lt128 c = one_byte _ _ _ (omega arith) c.wide-first.ensures (omega arith)
 
 -- the first byte
 byte : (c : Then-second-lt128) → c.wide-first.result < 256
@@ -22,10 +19,7 @@ pub overflow_add-result-then-second-lt128 : goal.overflow_add-result-then-second
 overflow_add-result-then-second-lt128 c = omega (arith, byte (goal.at.overflow_add-result-then-second-lt128 c).Then-second-lt128)
 
 pub returns-then-second-lt128 : goal.returns-then-second-lt128
-returns-then-second-lt128 c h =
+returns-then-second-lt128 c =
     two_bytes _ _ _ _ c.requires c.wide-first.ensures c.wide-second.ensures (omega arith) (byte (goal.at.returns-then-second-lt128 c).Then-second-lt128)
     c.if-second-eq0.false
     (omega arith)
-
-pub returns : goal.returns
-returns c h = absurd (h refl)
