@@ -37,11 +37,9 @@ pub fn number(book: &[u8], place: usize) -> Num
     if first < 128 {
         return Num::Value(first, place + 1);
     }
-    let mut at = place + 1;
-    let mut left: u64 = 9;
     let mut scale: u64 = 128;
     let mut sum = first - 128;
-    while 1 < left {
+    for at in place + 1..place + 9 {
         if book.len() <= at {
             return Num::Refused(ENDS_EARLY, book.len());
         }
@@ -52,17 +50,15 @@ pub fn number(book: &[u8], place: usize) -> Num
             }
             return Num::Value(sum + scale * b, at + 1);
         }
-        sum = sum + scale * (b - 128);
-        scale = scale * 128;
-        at = at + 1;
-        left = left - 1;
+        sum += scale * (b - 128);
+        scale *= 128;
     }
-    if book.len() <= at {
+    if book.len() <= place + 9 {
         return Num::Refused(ENDS_EARLY, book.len());
     }
-    let tenth = wide(book[at]);
+    let tenth = wide(book[place + 9]);
     if tenth == 1 {
-        return Num::Value(sum + scale, at + 1);
+        return Num::Value(sum + scale, place + 10);
     }
     Num::Refused(NOT_SHORTEST, place)
 }

@@ -1,5 +1,4 @@
 -- `above` meets its contract, by cases on the position after the date and by its test.
-use borrow.Author.Rules.{rules}
 use borrow.Author.Tests.{lt-ltb, le-ltb}
 use Rattle.format.specs.Reader.{tested}
 use Rattle.fields.proofs.kinds.above.Goals as goal

@@ -1,5 +1,4 @@
 -- `any_number` meets its contract, by cases on the position.
-use borrow.Author.Rules.{rules}
 use Rattle.format.specs.Reader.{number}
 use Rattle.fields.proofs.Common.{any_few}
 use Rattle.fields.proofs.kinds.any_number.Goals as goal

@@ -1,5 +1,4 @@
 -- `found` meets its contract, by cases on the number.
-use borrow.Author.Rules.{rules}
 use Rattle.format.specs.Reader.{found}
 use Rattle.fields.proofs.kinds.found.Goals as goal
 

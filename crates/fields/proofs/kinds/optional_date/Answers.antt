@@ -1,6 +1,5 @@
 -- `optional_date` meets its contract: a mark of one byte and a number of few, or else `optional`.
 use native.Mathlib.Omega.{arith}
-use borrow.Author.Rules.{rules}
 use Rattle.fields.proofs.Common.{absent_few, present_few, optional_refused}
 use Rattle.fields.proofs.kinds.optional_date.Goals as goal
 

@@ -1,5 +1,4 @@
 -- `place` meets its contract, by cases on the position.
-use borrow.Author.Rules.{rules}
 use Rattle.format.specs.Reader.{place_of}
 use Rattle.fields.proofs.kinds.place.Goals as goal
 

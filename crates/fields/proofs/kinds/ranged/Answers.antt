@@ -1,5 +1,4 @@
 -- `ranged` meets its contract, by cases on the position.
-use borrow.Author.Rules.{rules}
 use Rattle.format.specs.Reader.{ranged}
 use Rattle.fields.proofs.Common.{ranged_few}
 use Rattle.fields.proofs.kinds.ranged.Goals as goal

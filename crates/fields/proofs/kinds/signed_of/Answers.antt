@@ -1,6 +1,5 @@
 -- `signed_of` meets its contract: the half fits, and so does what stands that far below -1.
 use native.Mathlib.Omega.{arith}
-use borrow.Author.Rules.{rules}
 use borrow.Author.Tests.{eq-eqb, ne_eqb}
 use Rattle.format.specs.Signed.{received}
 use Rattle.fields.proofs.Signed.{half, below_fits, below_kept}

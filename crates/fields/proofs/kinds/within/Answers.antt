@@ -1,5 +1,4 @@
 -- `within` meets its contract, by cases on the number and by its tests.
-use borrow.Author.Rules.{rules}
 use borrow.Author.Tests.{lt-ltb, le-ltb}
 use Rattle.format.specs.Number.{in_range}
 use Rattle.fields.proofs.kinds.within.Goals as goal

@@ -1,7 +1,6 @@
 -- `behind` meets its contract: two bytes, three or four.
 use Prim.Native.Nat.{◌+◌, ◌<◌}
 use native.Mathlib.Omega.{arith}
-use borrow.Author.Rules.{rules}
 use Rattle.fields.proofs.Groups.{two_bytes, three_bytes, four_bytes}
 use Rattle.fields.proofs.numbers.behind.Goals as goal
 use Rattle.fields.proofs.numbers.behind.Goals.{After-wide-fourth, After-wide-second, After-wide-third}

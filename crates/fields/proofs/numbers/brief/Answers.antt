@@ -1,8 +1,6 @@
 -- `brief` meets its contract: one byte or two, or nothing is read.
 use Prim.Native.Nat.{◌<◌}
-use mathlib.Core.Path.{refl}
 use native.Mathlib.Omega.{arith}
-use borrow.Author.Rules.{rules}
 use Rattle.fields.proofs.Groups.{one_byte, two_bytes}
 use Rattle.fields.proofs.numbers.brief.Goals as goal
 use Rattle.fields.proofs.numbers.brief.Goals.{Then-second-lt128}

@@ -1,13 +1,11 @@
 -- `number` meets its contract: the loop keeps `Reading`, and each way out is one of its laws.
 use Prim.Native.Nat.{◌+◌, ◌-◌, ◌*◌, ◌^◌, ◌≤◌, ◌<◌}
-use mathlib.Core.Path.{◌≡◌, ap, sym, ◌∙◌}
+use mathlib.Core.Path.{◌≡◌, refl}
 use native.Mathlib.Omega.{arith}
-use borrow.Author.Rules.{rules}
 use Rattle.fields.proofs.Groups.{Reading, Due, begin, one_byte, more_bytes, ends, wrong}
 use Rattle.fields.proofs.Groups.{last, last_fits, goes_on, goes_on_fits, wrong_zero, right_more, right_tenth, wrong_tenth}
-use Rattle.format.specs.declared.Num.TheVariants.{Value}
 use Rattle.fields.proofs.numbers.number.Goals as goal
-use Rattle.fields.proofs.numbers.number.Goals.{After-wide-b, Then-tenth-eq1}
+use Rattle.fields.proofs.numbers.number.Goals.{After-loop-at, After-wide-b, Then-tenth-eq1}
 
 pub returns-then-book-place : goal.returns-then-book-place
 returns-then-book-place c = ends (begin _ _) (omega arith) c.if-book-place.true
@@ -15,33 +13,33 @@ returns-then-book-place c = ends (begin _ _) (omega arith) c.if-book-place.true
 pub returns-then-first-lt128 : goal.returns-then-first-lt128
 returns-then-first-lt128 c = one_byte _ _ _ c.if-book-place.false c.wide-first.ensures (omega arith)
 
-pub loop-left-init : goal.loop-left-init
-loop-left-init c =
+pub loop-at-init : goal.loop-at-init
+loop-at-init c =
     let byte = c.type_inv.book c.args.place in
-    (more_bytes _ _ _ c.if-book-place.false c.wide-first.ensures (omega arith) (omega (arith, c.wide-first.ensures, byte)), omega arith)
+    let nine : c.args.place + 10 - (c.args.place + 1) ≡ 9 = omega arith in
+    rw nine (more_bytes _ _ _ c.if-book-place.false c.wide-first.ensures (omega arith) (omega (arith, c.wide-first.ensures, byte)))
 
 pub returns-then-book-at : goal.returns-then-book-at
-returns-then-book-at c = let l = c.loop-left in ends l.invariant.0 (omega (arith, l.invariant.1)) c.if-book-at.true
+returns-then-book-at c = ends c.loop-at.invariant (omega arith) c.if-book-at.true
 
 -- a last byte of 0
 pub returns-then-b-eq0 : goal.returns-then-b-eq0
 returns-then-b-eq0 c =
-    let l = c.loop-left in
-    wrong l.invariant.0 (omega (arith, l.invariant.1)) _ c.if-book-at.false c.wide-b.ensures (wrong_zero l.left c.wide-b.result (omega (arith, l.invariant.1)) c.if-b-eq0.true)
+    wrong c.loop-at.invariant (omega arith) _ c.if-book-at.false c.wide-b.ensures (wrong_zero _ c.wide-b.result (omega arith) c.if-b-eq0.true)
 
 -- the byte that was read, where it is not 0
 due :
     (c : After-wide-b) → (c.wide-b.result ≡ 0 → ⊥) →
     let args = c.args in
-    Due args.book.now args.place c.loop-left.at c.loop-left.left c.loop-left.scale c.loop-left.sum c.wide-b.result
+    let l = c.loop-at in
+    Due args.book.now args.place l.at (args.place + 10 - l.at) l.scale l.sum c.wide-b.result
 due c h =
-    let l = c.loop-left in
     record {
-      reading = l.invariant.0;
-      more = omega (arith, l.invariant.1);
+      reading = c.loop-at.invariant;
+      more = omega arith;
       inside = c.if-book-at.false;
       byte = c.wide-b.ensures;
-      right = right_more l.left c.wide-b.result c.loop-left-test.true h;
+      right = right_more _ c.wide-b.result (omega arith) h;
     }
 
 pub overflow_mul-result : goal.overflow_mul-result
@@ -56,71 +54,72 @@ returns-then-b-lt128 c = last (due (goal.at.returns-then-b-lt128 c).After-wide-b
 -- the byte that was read, where others follow
 follows : (c : After-wide-b) → 128 ≤ c.wide-b.result →
     let args = c.args in
-    Due args.book.now args.place c.loop-left.at c.loop-left.left c.loop-left.scale c.loop-left.sum c.wide-b.result
+    let l = c.loop-at in
+    Due args.book.now args.place l.at (args.place + 10 - l.at) l.scale l.sum c.wide-b.result
 follows c h = due c (λ e. omega arith)
 
 -- what the code computes fits
 fits :
     (c : After-wide-b) → 128 ≤ c.wide-b.result → c.wide-b.result < 256 →
-    let l = c.loop-left in
+    let l = c.loop-at in
     (l.scale * 128 < 2 ^ 64) × (l.sum + l.scale * (c.wide-b.result - 128) < l.scale * 128)
 fits c h b = goes_on_fits (follows c h) h b
 
 pub overflow_mul-sum : goal.overflow_mul-sum
 overflow_mul-sum c =
-    let byte : c.wide-b.result < 256 = omega (arith, c.wide-b.ensures, c.type_inv.book c.loop-left.at) in
+    let byte : c.wide-b.result < 256 = omega (arith, c.wide-b.ensures, c.type_inv.book c.loop-at.at) in
     omega (arith, fits (goal.at.overflow_mul-sum c).After-wide-b c.if-b-lt128.false byte)
 
 pub overflow_add-sum : goal.overflow_add-sum
 overflow_add-sum c =
-    let byte : c.wide-b.result < 256 = omega (arith, c.wide-b.ensures, c.type_inv.book c.loop-left.at) in
+    let byte : c.wide-b.result < 256 = omega (arith, c.wide-b.ensures, c.type_inv.book c.loop-at.at) in
     omega (arith, fits (goal.at.overflow_add-sum c).After-wide-b c.if-b-lt128.false byte)
 
 pub overflow_mul-scale : goal.overflow_mul-scale
 overflow_mul-scale c =
-    let byte : c.wide-b.result < 256 = omega (arith, c.wide-b.ensures, c.type_inv.book c.loop-left.at) in
+    let byte : c.wide-b.result < 256 = omega (arith, c.wide-b.ensures, c.type_inv.book c.loop-at.at) in
     omega (arith, fits (goal.at.overflow_mul-scale c).After-wide-b c.if-b-lt128.false byte)
 
-pub loop-left-preserved : goal.loop-left-preserved
-loop-left-preserved c =
-    let l = c.loop-left in
+pub loop-at-preserved : goal.loop-at-preserved
+loop-at-preserved c =
+    let l = c.loop-at in
+    let place = c.args.place in
     let byte : c.wide-b.result < 256 = omega (arith, c.wide-b.ensures, c.type_inv.book l.at) in
-    (goes_on (follows (goal.at.loop-left-preserved c).After-wide-b c.if-b-lt128.false) c.if-b-lt128.false byte, omega (arith, l.invariant.1, c.loop-left-test.true))
+    let less : place + 10 - (l.at + 1) ≡ place + 10 - l.at - 1 = omega arith in
+    rw less (goes_on (follows (goal.at.loop-at-preserved c).After-wide-b c.if-b-lt128.false) c.if-b-lt128.false byte)
 
-pub returns-then-book-at-2 : goal.returns-then-book-at-2
-returns-then-book-at-2 c = let l = c.loop-left in ends l.invariant.0 (omega (arith, l.invariant.1)) c.if-book-at-2.true
+-- the tenth byte is due
+read_nine : (c : After-loop-at) → Reading c.args.book.now c.args.place (c.args.place + 9) 1 c.loop-at.scale c.loop-at.sum
+read_nine c =
+    let l = c.loop-at in
+    let one : c.args.place + 10 - l.at ≡ 1 = omega arith in
+    let here : l.at ≡ c.args.place + 9 = omega arith in
+    rw (one, here) at l.invariant
 
--- the tenth byte, where it is 1
-tenth : (c : Then-tenth-eq1) →
-    let args = c.args in
-    Due args.book.now args.place c.loop-left.at c.loop-left.left c.loop-left.scale c.loop-left.sum c.wide-tenth.result
+pub returns-then-book-place-2 : goal.returns-then-book-place-2
+returns-then-book-place-2 c = ends (read_nine (goal.at.returns-then-book-place-2 c).After-loop-at) (omega arith) c.if-book-place-2.true
+
+-- it is 1
+tenth : (c : Then-tenth-eq1) → Due c.args.book.now c.args.place (c.args.place + 9) 1 c.loop-at.scale c.loop-at.sum 1
 tenth c =
-    let l = c.loop-left in
     record {
-      reading = l.invariant.0;
-      more = omega (arith, l.invariant.1);
-      inside = c.if-book-at-2.false;
-      byte = c.wide-tenth.ensures;
-      right = right_tenth l.left c.wide-tenth.result (omega (arith, l.invariant.1, c.loop-left-test.false)) (omega arith);
+      reading = read_nine (goal.at.returns-then-tenth-eq1 c).After-loop-at;
+      more = omega arith;
+      inside = c.if-book-place-2.false;
+      byte = rw c.if-tenth-eq1.true at c.wide-tenth.ensures;
+      right = right_tenth 1 1 refl refl;
     }
 
-once : (c : Then-tenth-eq1) → let l = c.loop-left in l.scale * c.wide-tenth.result ≡ l.scale
-once c =
-    let l = c.loop-left in
-    let one : c.wide-tenth.result ≡ 1 = omega arith in
-    let z : l.scale * 1 ≡ l.scale = omega arith in
-    ap (λ x. l.scale * x) one ∙ z
-
 pub overflow_add-result-then-tenth-eq1 : goal.overflow_add-result-then-tenth-eq1
-overflow_add-result-then-tenth-eq1 c = omega (arith, last_fits (tenth (goal.at.overflow_add-result-then-tenth-eq1 c).Then-tenth-eq1) (omega arith), once (goal.at.overflow_add-result-then-tenth-eq1 c).Then-tenth-eq1)
+overflow_add-result-then-tenth-eq1 c = omega (arith, last_fits (tenth (goal.at.overflow_add-result-then-tenth-eq1 c).Then-tenth-eq1) (omega arith))
 
 pub returns-then-tenth-eq1 : goal.returns-then-tenth-eq1
 returns-then-tenth-eq1 c =
-    let l = c.loop-left in
-    ap (λ x. Value (l.sum + x) (l.at + 1)) (sym (once (goal.at.returns-then-tenth-eq1 c).Then-tenth-eq1)) ∙ last (tenth (goal.at.returns-then-tenth-eq1 c).Then-tenth-eq1) (omega arith)
+    let once : c.loop-at.scale * 1 ≡ c.loop-at.scale = omega arith in
+    let behind : c.args.place + 9 + 1 ≡ c.args.place + 10 = omega arith in
+    rw (once, behind) at (last (tenth (goal.at.returns-then-tenth-eq1 c).Then-tenth-eq1) (omega arith))
 
 pub returns : goal.returns
 returns c =
-    let l = c.loop-left in
-    wrong l.invariant.0 (omega (arith, l.invariant.1)) _ c.if-book-at-2.false c.wide-tenth.ensures
-    (wrong_tenth l.left c.wide-tenth.result (omega (arith, l.invariant.1, c.loop-left-test.false)) (λ z. omega arith))
+    wrong (read_nine (goal.at.returns c).After-loop-at) (omega arith) _ c.if-book-place-2.false c.wide-tenth.ensures
+    (wrong_tenth 1 c.wide-tenth.result refl (λ z. omega arith))

@@ -1,7 +1,5 @@
 -- `short` meets its contract: nothing near the end, else one byte or what `behind` reads.
-use mathlib.Core.Path.{refl}
 use native.Mathlib.Omega.{arith}
-use borrow.Author.Rules.{rules}
 use Rattle.fields.proofs.Groups.{one_byte}
 use Rattle.fields.proofs.numbers.short.Goals as goal
 
