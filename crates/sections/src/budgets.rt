@@ -8,8 +8,9 @@ ghost use Rattle.fields.specs.Optional.{number_option};
 ghost use Rattle.sections.specs.Sections.{IsList, IsAlike, budget_of, mark_of};
 
 use crate::Section;
+use crate::elements::{Element, read_elements};
 use fields::OptionalNumber;
-use fields::kinds::{amount, field, optional_index};
+use fields::kinds::{field, optional_index};
 use format::{COUNT_OUT_OF_RANGE, Pos};
 use records::budgets::read_budget_head;
 
@@ -27,14 +28,7 @@ pub fn read_amounts(book: &[u8], at: Pos, most: u64) -> Section
     requires { most < 1000 }
     ensures { IsAlike 0 most layout.amount book.now at result }
 {
-    let lead = field(book, at, 0, most + 1, COUNT_OUT_OF_RANGE);
-    let first = lead.next;
-    let count = lead.value;
-    let mut next = first;
-    for _ in 0..count {
-        next = amount(book, next).next;
-    }
-    Section { count, first, next }
+    read_elements(book, at, Element::Amount, 0, most)
 }
 
 // A budget of a book with so many activities. `new`: no budget before it names what it names.

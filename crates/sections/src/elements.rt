@@ -8,7 +8,7 @@ ghost use Rattle.sections.specs.Elements.{codec_of};
 use crate::Section;
 use crate::calendars::read_calendar;
 use crate::resources::read_resource;
-use fields::kinds::{date, field};
+use fields::kinds::{amount, date, field};
 use format::{COUNT_OUT_OF_RANGE, Pos};
 use records::activities::{read_activity, read_assignment, read_baseline_line, read_expense};
 use records::budgets::read_budget_change;
@@ -26,6 +26,7 @@ pub enum Element {
     BudgetChange { activities: u64 },
     Period,
     PeriodRecord { periods: u64, activities: u64 },
+    Amount,
 }
 
 // Where reading goes on after one element.
@@ -51,6 +52,7 @@ fn skip(book: &[u8], at: Pos, element: Element) -> Pos
             periods,
             activities,
         } => read_period_record(book, at, periods, activities).next,
+        Element::Amount => amount(book, at).next,
     }
 }
 
