@@ -117,29 +117,24 @@ pub fn ranged(book: &[u8], at: Pos, place: usize, low: u64, bound: u64, code: u6
 pub fn field(book: &[u8], at: Pos, low: u64, bound: u64, code: u64) -> Read<u64>
     ensures { (result.value, result.next) ≡ (codec.field (kind.range low bound code)).read book.now at }
 {
-    let p = place(at);
-    ranged(book, at, p, low, bound, code)
+    ranged(book, at, place(at), low, bound, code)
 }
 
 // O of a number from `low` to below `bound`, which is refused at its mark's place.
 fn optional(book: &[u8], at: usize, low: u64, bound: u64) -> Read<OptionalNumber>
     ensures { (number_option result.value, result.next) ≡ (O (kind.range low bound 4)).read book.now (At at) }
 {
-    let start = Pos::At(at);
-    let mark = field(book, start, 0, 2, OUT_OF_RANGE);
-    let next = mark.next;
+    let mark = field(book, Pos::At(at), 0, 2, OUT_OF_RANGE);
     if mark.value == 0 {
         return Read {
             value: OptionalNumber::Absent,
-            next,
+            next: mark.next,
         };
     }
-    let mark_place = place(start);
-    let value = ranged(book, next, mark_place, low, bound, OUT_OF_RANGE);
-    let end = value.next;
+    let value = ranged(book, mark.next, at, low, bound, OUT_OF_RANGE);
     Read {
         value: OptionalNumber::Present(value.value),
-        next: end,
+        next: value.next,
     }
 }
 
@@ -156,9 +151,10 @@ pub fn amount(book: &[u8], at: Pos) -> Read<i64>
     ensures { (result.value, result.next) ≡ (codec.field S).read book.now at }
 {
     let n = any_number(book, at);
-    let next = n.next;
-    let value = signed_of(n.value);
-    Read { value, next }
+    Read {
+        value: signed_of(n.value),
+        next: n.next,
+    }
 }
 
 // O S: a signed number that may be absent.
@@ -166,18 +162,16 @@ pub fn optional_amount(book: &[u8], at: Pos) -> Read<OptionalAmount>
     ensures { (amount_option result.value, result.next) ≡ (O S).read book.now at }
 {
     let mark = field(book, at, 0, 2, OUT_OF_RANGE);
-    let next = mark.next;
     if mark.value == 0 {
         return Read {
             value: OptionalAmount::Absent,
-            next,
+            next: mark.next,
         };
     }
-    let value = amount(book, next);
-    let end = value.next;
+    let value = amount(book, mark.next);
     Read {
         value: OptionalAmount::Present(value.value),
-        next: end,
+        next: value.next,
     }
 }
 
@@ -270,8 +264,7 @@ pub fn minutes(book: &[u8], at: Pos) -> Read<u64>
 fn above(d: Read<u64>, before: u64, place: usize) -> Read<u64>
     ensures { (result.value, result.next) ≡ reader.tested 0 6 place (ltb before d.value) (d.value, d.next) }
 {
-    let next = d.next;
-    match next {
+    match d.next {
         Pos::At(_) => {
             if before < d.value {
                 return d;
@@ -289,7 +282,5 @@ fn above(d: Read<u64>, before: u64, place: usize) -> Read<u64>
 pub fn rising(book: &[u8], at: Pos, before: u64) -> Read<u64>
     ensures { (result.value, result.next) ≡ (layout.rising before).read book.now at }
 {
-    let d = date(book, at);
-    let p = place(at);
-    above(d, before, p)
+    above(date(book, at), before, place(at))
 }

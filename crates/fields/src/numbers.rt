@@ -26,7 +26,9 @@ fn wide(x: u8) -> u64
     x as u64
 }
 
-// The number that begins at `place`: a byte below 128 is its last, and the tenth can only be 1.
+// The number that begins at `place`: a byte below 128 is its last, and the tenth can only be 1. Its callers read
+// most numbers without it, and are small enough to be inlined where it is not.
+#[inline(never)]
 pub fn number(book: &[u8], place: usize) -> Num
     ensures { result ≡ number_at book.now place }
 {

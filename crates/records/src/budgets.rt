@@ -33,8 +33,7 @@ pub struct BudgetChange {
 fn named_once(named: Read<OptionalNumber>, new: bool, place: usize) -> Read<OptionalNumber>
     ensures { (number_option result.value, result.next) ≡ tested none 6 place new (number_option named.value, named.next) }
 {
-    let next = named.next;
-    match next {
+    match named.next {
         Pos::At(_) => {
             if new {
                 return named;
@@ -54,8 +53,7 @@ pub fn read_budget_head(book: &[u8], at: Pos, activities: u64, new: bool) -> Bud
         ≡ (test none (λ a. new) 6 (O (kind.index activities)) & layout.amount).read book.now at }
 {
     let named = optional_index(book, at, activities);
-    let p = place(at);
-    let activity = named_once(named, new, p);
+    let activity = named_once(named, new, place(at));
     let original = amount(book, activity.next);
     BudgetHead {
         activity: activity.value,

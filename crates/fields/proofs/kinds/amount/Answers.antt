@@ -8,4 +8,4 @@ use Rattle.fields.proofs.kinds.amount.Goals as goal
 
 pub returns : goal.returns
 unfolding field S here signed mapped
-returns c = rw (kept c.signed_of-value.result c.signed_of-value.type_inv, c.signed_of-value.ensures, ← c.any_number-n.ensures)
+returns c = rw (kept c.signed_of.result c.signed_of.type_inv, c.signed_of.ensures, ← c.any_number-n.ensures)

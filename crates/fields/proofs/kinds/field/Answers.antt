@@ -6,4 +6,4 @@ use Rattle.fields.proofs.kinds.field.Goals as goal
 
 pub returns : goal.returns
 unfolding field range here
-returns c = rw (c.ranged.ensures, c.place-p.ensures)
+returns c = rw (c.ranged.ensures, c.place.ensures)

@@ -6,4 +6,4 @@ use Rattle.fields.proofs.kinds.rising.Goals as goal
 
 pub returns : goal.returns
 unfolding rising test passing
-returns c = rw (c.above.ensures, c.place-p.ensures, ← c.date-d.ensures)
+returns c = rw (c.above.ensures, c.place.ensures, ← c.date.ensures)

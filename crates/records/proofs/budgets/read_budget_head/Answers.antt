@@ -7,5 +7,5 @@ pub returns : goal.returns
 unfolding ◌&◌
 returns c =
     both_read _ _ _ _
-    (test_read _ _ _ _ _ _ c.optional_index-named.ensures (rw c.place-p.ensures at c.named_once-activity.ensures))
+    (test_read _ _ _ _ _ _ c.optional_index-named.ensures (rw c.place.ensures at c.named_once-activity.ensures))
     (amount_read c.amount-original.ensures c.struct_told-1.given.0.1)
