@@ -57,6 +57,7 @@ pub struct BaselineLine {
 }
 
 // An activity of a book with so many calendars and activities.
+#[inline(always)]
 pub fn read_activity(book: &[u8], at: Pos, calendars: u64, activities: u64) -> Activity
     ensures { (activity_of result, result.next) ≡ (layout.activity calendars activities).read book.now at }
 {
@@ -86,6 +87,7 @@ pub fn read_activity(book: &[u8], at: Pos, calendars: u64, activities: u64) -> A
 }
 
 // An assignment of a book with so many activities and resources.
+#[inline(always)]
 pub fn read_assignment(book: &[u8], at: Pos, activities: u64, resources: u64) -> Assignment
     ensures { (assignment_of result, result.next) ≡ (layout.assignment activities resources).read book.now at }
 {
@@ -105,6 +107,7 @@ pub fn read_assignment(book: &[u8], at: Pos, activities: u64, resources: u64) ->
 }
 
 // An expense of a book with so many activities.
+#[inline(always)]
 pub fn read_expense(book: &[u8], at: Pos, activities: u64) -> Expense
     ensures { (expense_of result, result.next) ≡ (layout.expense activities).read book.now at }
 {
@@ -124,6 +127,7 @@ pub fn read_expense(book: &[u8], at: Pos, activities: u64) -> Expense
 }
 
 // A line of the baseline of a book with so many activities.
+#[inline(always)]
 pub fn read_baseline_line(book: &[u8], at: Pos, activities: u64) -> BaselineLine
     ensures { (baseline_line_of result, result.next) ≡ (layout.baseline_line activities).read book.now at }
 {

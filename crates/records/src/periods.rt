@@ -19,6 +19,7 @@ pub struct PeriodRecord {
 }
 
 // A record of a book with so many periods and activities.
+#[inline(always)]
 pub fn read_period_record(book: &[u8], at: Pos, periods: u64, activities: u64) -> PeriodRecord
     ensures { (period_record_of result, result.next) ≡ (layout.period_record periods activities).read book.now at }
 {

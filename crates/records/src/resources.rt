@@ -4,9 +4,9 @@ ghost use Rattle.format.specs.Enumeration.{resource_kind};
 ghost use Rattle.format.specs.Format as layout;
 ghost use Rattle.records.specs.Decoded.{price_of};
 
-use fields::{OptionalNumber, Read};
 use fields::enumerations::resource_kind_of;
 use fields::kinds::{amount, field, optional_date};
+use fields::{OptionalNumber, Read};
 use format::{OUT_OF_RANGE, Pos, ResourceKind};
 
 // A price per unit and the day that it holds from.
