@@ -1,5 +1,4 @@
 -- `named_once` meets its contract: by cases on the position after the name and by its test.
-use borrow.Author.Rules.{rules}
 use Rattle.format.specs.Reader.{tested}
 use Rattle.records.proofs.budgets.named_once.Goals as goal
 
