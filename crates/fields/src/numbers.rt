@@ -20,12 +20,6 @@ struct Ending {
     last: u64,
 }
 
-fn wide(x: u8) -> u64
-    ensures { result ≡ x }
-{
-    x as u64
-}
-
 // The number that begins at `place`: a byte below 128 is its last, and the tenth can only be 1. Its callers read
 // most numbers without it, and are small enough to be inlined where it is not.
 #[inline(never)]
@@ -35,7 +29,7 @@ pub fn number(book: &[u8], place: usize) -> Num
     if book.len() <= place {
         return Num::Refused(ENDS_EARLY, book.len());
     }
-    let first = wide(book[place]);
+    let first = u64::from(book[place]);
     if first < 128 {
         return Num::Value(first, place + 1);
     }
@@ -45,7 +39,7 @@ pub fn number(book: &[u8], place: usize) -> Num
         if book.len() <= at {
             return Num::Refused(ENDS_EARLY, book.len());
         }
-        let b = wide(book[at]);
+        let b = u64::from(book[at]);
         if b < 128 {
             if b == 0 {
                 return Num::Refused(NOT_SHORTEST, place);
@@ -58,7 +52,7 @@ pub fn number(book: &[u8], place: usize) -> Num
     if book.len() <= place + 9 {
         return Num::Refused(ENDS_EARLY, book.len());
     }
-    let tenth = wide(book[place + 9]);
+    let tenth = u64::from(book[place + 9]);
     if tenth == 1 {
         return Num::Value(sum + scale, place + 10);
     }
@@ -80,7 +74,7 @@ pub fn mark_at(book: &[u8], place: usize) -> u64
     ensures { result < 2 → IsMark book.now place result }
 {
     if place < far(book) {
-        return wide(book[place]);
+        return u64::from(book[place]);
     }
     2
 }
@@ -90,14 +84,14 @@ pub fn brief(book: &[u8], place: usize) -> Option<Few>
     requires { place + 1 < length book.now }
     ensures { IsFew book.now place result }
 {
-    let first = wide(book[place]);
+    let first = u64::from(book[place]);
     if first < 128 {
         return Some(Few {
             value: first,
             next: place + 1,
         });
     }
-    let second = wide(book[place + 1]);
+    let second = u64::from(book[place + 1]);
     if second == 0 {
         return None;
     }
@@ -115,7 +109,7 @@ fn behind(book: &[u8], place: usize, first: u64) -> Ending
     requires { Begun book.now place first }
     ensures { IsEnding book.now place result }
 {
-    let second = wide(book[place + 1]);
+    let second = u64::from(book[place + 1]);
     let two = first - 128 + 128 * second;
     if second < 128 {
         return Ending {
@@ -124,7 +118,7 @@ fn behind(book: &[u8], place: usize, first: u64) -> Ending
             last: second,
         };
     }
-    let third = wide(book[place + 2]);
+    let third = u64::from(book[place + 2]);
     let three = two - 16384 + 16384 * third;
     if third < 128 {
         return Ending {
@@ -133,7 +127,7 @@ fn behind(book: &[u8], place: usize, first: u64) -> Ending
             last: third,
         };
     }
-    let fourth = wide(book[place + 3]);
+    let fourth = u64::from(book[place + 3]);
     Ending {
         value: three - 2097152 + 2097152 * fourth,
         next: place + 4,
@@ -148,7 +142,7 @@ pub fn short(book: &[u8], place: usize) -> Option<Few>
     if far(book) <= place {
         return None;
     }
-    let first = wide(book[place]);
+    let first = u64::from(book[place]);
     if first < 128 {
         return Some(Few {
             value: first,
