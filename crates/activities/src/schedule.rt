@@ -123,13 +123,11 @@ fn fill_rows(book: &[u8], list: Section, calendars: u64, date: OptionalNumber, o
 {
     let count = list.count;
     let mut next = list.first;
-    let mut i: u64 = 0;
-    while i < count {
+    for i in 0..count {
         let a = read_activity(book, next, calendars, count);
         let row = row_of(date, a);
         put_row(&row, i as usize * SCHEDULE_WIDTH, out);
         next = a.next;
-        i += 1;
     }
 }
 
@@ -207,10 +205,8 @@ pub fn copy_parents(schedule: &[u64], out: &mut [u64])
     requires { length schedule.now ≡ length out.old * 13 }
     ensures { (book : Book) → schedule.now ≡ schedule_of book → out.new ≡ map parent_number book.activities }
 {
-    let mut i = 0;
-    while i < out.len() {
+    for i in 0..out.len() {
         out[i] = schedule[i * SCHEDULE_WIDTH + PARENT];
-        i += 1;
     }
 }
 
@@ -221,13 +217,11 @@ pub fn parent_marks(schedule: &[u64]) -> [u64; 500]
 {
     let n = schedule.len() / SCHEDULE_WIDTH;
     let mut marks = [0u64; 500];
-    let mut i = 0;
-    while i < n {
+    for i in 0..n {
         let parent = schedule[i * SCHEDULE_WIDTH + PARENT];
         if parent < 500 {
             marks[parent as usize] = 1;
         }
-        i += 1;
     }
     marks
 }

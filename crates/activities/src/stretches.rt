@@ -31,10 +31,8 @@ pub fn stretch_all(schedule: &[u64]) -> Stretch
         from: 47482,
         to: 10956,
     };
-    let mut i = 0;
-    while i < n {
+    for i in 0..n {
         known = widen_ways(schedule, i, known);
-        i += 1;
     }
     close(known)
 }

@@ -74,11 +74,9 @@ pub fn take_lines(book: &[u8], list: Section, activities: u64, last: bool, out: 
 {
     let count = list.count;
     let mut next = list.first;
-    let mut i: u64 = 0;
-    while i < count {
+    for i in 0..count {
         let line = read_baseline_line(book, next, activities);
         take_line(line, last, out);
         next = line.next;
-        i += 1;
     }
 }

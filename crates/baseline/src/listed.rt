@@ -48,8 +48,7 @@ fn fill_spans(schedule: &[u64], lines: &[u64], n: usize, out: &mut [u64])
     requires { (length schedule.now ≡ n * 13) × (length lines.now ≡ n * 5) × (length out.old ≡ n * 3) }
     ensures { (book : Book) → schedule.now ≡ schedule_of book → lines.now ≡ lines_table false book → out.new ≡ listed_of book }
 {
-    let mut i = 0;
-    while i < n {
+    for i in 0..n {
         let row = i * SCHEDULE_WIDTH;
         let line = i * LINE_WIDTH;
         let at = i * LISTED_WIDTH;
@@ -57,7 +56,6 @@ fn fill_spans(schedule: &[u64], lines: &[u64], n: usize, out: &mut [u64])
         out[at] = lined_or(mark, lines[line + 1], schedule[row + 2]);
         out[at + 1] = lined_or(mark, lines[line + 2], schedule[row + 3]);
         out[at + 2] = schedule[row + 1];
-        i += 1;
     }
 }
 
@@ -67,12 +65,10 @@ fn fill_budgets(schedule: &[u64], lines: &[u64], costs: &[i64], out: &mut [i64])
     ensures { (book : Book) → InRange book → schedule.now ≡ schedule_of book → lines.now ≡ lines_table false book → costs.now ≡ own_costs book → out.new ≡ budgets_of book }
 {
     let parents = parent_marks(schedule);
-    let mut i = 0;
-    while i < out.len() {
+    for i in 0..out.len() {
         let line = i * LINE_WIDTH;
         let cost = costs[i * COST_WIDTH];
         out[i] = frozen_or(parents[i], lines[line], lines[line + 4], cost);
-        i += 1;
     }
 }
 

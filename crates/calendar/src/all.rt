@@ -22,14 +22,12 @@ pub fn fill_all(book: &[u8], calendars: Section, from: u64, to: u64, days: &mut 
     let width = (to + 1 - from) as usize;
     let count = calendars.count;
     let mut next = calendars.first;
-    let mut i: u64 = 0;
     let mut at: usize = 0;
-    while i < count {
+    for i in 0..count {
         let calendar = read_calendar(book, next);
         let end = at + width;
         next = calendar.next;
         fill_days(book, calendar, from, to, &mut days[at..end]);
         at = end;
-        i += 1;
     }
 }

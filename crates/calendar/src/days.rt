@@ -21,13 +21,11 @@ fn overlay_days(book: &[u8], list: Section, works: bool, base: u64, days: &mut [
     let count = list.count;
     let mut next = list.first;
     let mut before: u64 = 0;
-    let mut i: u64 = 0;
-    while i < count {
+    for i in 0..count {
         let d = rising(book, next, before);
         mark(days, base, d.value, works);
         before = d.value;
         next = d.next;
-        i += 1;
     }
 }
 
@@ -38,13 +36,11 @@ fn overlay_exceptions(book: &[u8], list: Section, base: u64, days: &mut [u8])
     let count = list.count;
     let mut next = list.first;
     let mut before: u64 = 0;
-    let mut i: u64 = 0;
-    while i < count {
+    for i in 0..count {
         let e = read_exception(book, next, before);
         mark(days, base, e.day, e.working);
         before = e.day;
         next = e.next;
-        i += 1;
     }
 }
 

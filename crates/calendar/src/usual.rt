@@ -54,11 +54,9 @@ fn free_year(year: i32, base: u64, days: &mut [u8])
     ensures { days.new ≡ foldl (freed base) days.old (holidays_in year) }
 {
     let sunday = computus::easter(year);
-    let mut k: usize = 0;
-    while k < 13 {
+    for k in 0..13 {
         let day = holidays::holiday_in(year, sunday, k);
         free(day, base, days);
-        k += 1;
     }
 }
 

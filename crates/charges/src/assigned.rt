@@ -68,13 +68,11 @@ fn fill_assignments(
 {
     let count = list.count;
     let mut next = list.first;
-    let mut i: u64 = 0;
-    while i < count {
+    for i in 0..count {
         let x = read_assignment(book, next, activities, resources);
         set_link(x, i as usize * 2, links);
         set_units(x, i as usize * 3, units);
         next = x.next;
-        i += 1;
     }
 }
 

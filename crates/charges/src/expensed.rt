@@ -57,13 +57,11 @@ fn fill_expenses(
 {
     let count = list.count;
     let mut next = list.first;
-    let mut i: u64 = 0;
-    while i < count {
+    for i in 0..count {
         let e = read_expense(book, next, activities);
         set_accrual(e, i as usize * 2, accruals);
         set_amounts(e, i as usize * 3, amounts);
         next = e.next;
-        i += 1;
     }
 }
 

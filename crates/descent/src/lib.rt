@@ -11,21 +11,11 @@ ghost use Rattle.descent.specs.Links.{place_of, IsLinksOf, line_numbers, lines_b
 // The numbers of a line: its level and its index.
 pub const LINE_WIDTH: usize = 2;
 
-fn fill(x: u64, out: &mut [u64])
-    ensures { out.new ≡ replicate (length out.old) x }
-{
-    let mut i = 0;
-    while i < out.len() {
-        out[i] = x;
-        i += 1;
-    }
-}
-
 // Where an activity hangs: on its parent, or behind all.
 fn place_of(parent: u64, count: u64) -> u64
     ensures { result ≡ place_of count parent }
 {
-    if parent < count { parent } else { count }
+    parent.min(count)
 }
 
 // The columns of the tree, from the last activity to the first, so that the children are met in index order: the first child
@@ -35,10 +25,8 @@ fn link(parents: &[u64], first: &mut [u64], next: &mut [u64])
     ensures { IsLinksOf parents.now first.new next.new }
 {
     let count = parents.len() as u64;
-    fill(count, first);
-    let mut i = parents.len();
-    while 0 < i {
-        i -= 1;
+    first.fill(count);
+    for i in (0..parents.len()).rev() {
         let place = place_of(parents[i], count) as usize;
         next[i] = first[place];
         first[place] = i as u64;

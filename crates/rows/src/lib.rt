@@ -15,11 +15,9 @@ pub fn put_numbers(figures: &[i64], out: &mut [u64])
     requires { length out.old ≡ length figures.now }
     ensures { out.new ≡ map bits figures.now }
 {
-    let mut i: usize = 0;
-    while i < figures.len() {
+    for i in 0..figures.len() {
         let x = figures[i];
         out[i] = to_bits(x);
-        i += 1;
     }
 }
 

@@ -55,11 +55,9 @@ pub fn stretch_of(table: &[u64], n: usize, width: usize, at: usize) -> Stretch
         from: 47482,
         to: 10956,
     };
-    let mut i = 0;
-    while i < n {
+    for i in 0..n {
         let k = i * width + at;
         known = widen(known, table[k], table[k + 1]);
-        i += 1;
     }
     close(known)
 }

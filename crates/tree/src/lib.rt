@@ -27,14 +27,3 @@ pub fn walk_up(parents: &[u64], from: usize, limit: u64) -> u64
     };
     steps
 }
-
-fn copy(from: &[i64], to: &mut [i64])
-    requires { length to.old ≡ length from.now }
-    ensures { to.new ≡ from.now }
-{
-    let mut i = 0;
-    while i < from.len() {
-        to[i] = from[i];
-        i += 1;
-    }
-}

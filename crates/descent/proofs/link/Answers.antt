@@ -8,7 +8,7 @@ use Rattle.descent.proofs.link.Goals as goal
 
 pub loop-i-init : goal.loop-i-init
 loop-i-init c =
-    linking_first c.args.parents.now _ c.args.next.now c.requires.1 (c.fill.ensures ∙ ap (λ (n : ℕ). replicate n (length c.args.parents.now)) c.requires.0)
+    linking_first c.args.parents.now _ c.args.next.now c.requires.1 (c.fill.ensures.after (λ y e. e) ∙ ap (λ (n : ℕ). replicate n (length c.args.parents.now)) c.requires.0)
 
 pub offset_bounds-first-place : goal.offset_bounds-first-place
 offset_bounds-first-place c =

@@ -10,6 +10,3 @@ use Rattle.activities.proofs.schedule.copy_parents.Given as goal
 
 abbrev pub invariant-loop-i : goal.invariant-loop-i
 invariant-loop-i l = Copied 13 0 l.schedule (length l.initial.out) l.i l.out
-
-abbrev pub decreases-loop-i : goal.decreases-loop-i
-decreases-loop-i l = length l.initial.out - l.i

@@ -15,6 +15,3 @@ use Rattle.activities.proofs.schedule.parent_marks.Given as goal
 abbrev pub invariant-loop-i : goal.invariant-loop-i
 invariant-loop-i l =
     (length l.marks ≡ 500) × ((book : Book) → l.schedule ≡ schedule_of book → Marking book.activities l.i l.marks)
-
-abbrev pub decreases-loop-i : goal.decreases-loop-i
-decreases-loop-i l = l.n - l.i

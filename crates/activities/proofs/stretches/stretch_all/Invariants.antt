@@ -15,6 +15,3 @@ use Rattle.activities.proofs.stretches.stretch_all.Given as goal
 abbrev pub invariant-loop-i : goal.invariant-loop-i
 invariant-loop-i l =
     (book : Book) → InRange book → l.schedule ≡ schedule_of book → (way : Way) → Covering (first_in l.schedule way) (last_in l.schedule way) l.i l.known
-
-abbrev pub decreases-loop-i : goal.decreases-loop-i
-decreases-loop-i l = l.n - l.i

@@ -34,13 +34,6 @@ take_line-requires c =
     let range = read_range (BaselineLineInRange c.args.activities) _ lines.ranges lines.listed c.loop-i.i (baseline_line_of c.read_baseline_line-line.result) (omega (arith, c.loop-i-test.true, length-all)) (is_next (goal.at.take_line-requires c).After-read_baseline_line-line) in
     omega (arith, range.activity, c.loop-i.invariant.1.long, c.requires.out_len.0)
 
-pub overflow_add-i : goal.overflow_add-i
-overflow_add-i c =
-    omega (arith, c.loop-i-test.true, c.well_formed.1.0)
-
-pub loop-i-smaller : goal.loop-i-smaller
-loop-i-smaller c = omega (arith, c.loop-i-test.true)
-
 pub loop-i-preserved : goal.loop-i-preserved
 loop-i-preserved c =
     let length-all = read_length (baseline_line c.args.activities) c.args.book.now c.args.list.count c.args.list.first in (

@@ -19,6 +19,3 @@ use Rattle.baseline.proofs.lines.take_lines.Given as goal
 abbrev pub invariant-loop-i : goal.invariant-loop-i
 invariant-loop-i l =
     Reading (baseline_line l.activities) l.book l.count l.initial.next l.i l.next × Taking l.last ((alike l.count (baseline_line l.activities)).read l.book l.initial.next).0 l.initial.out l.i l.out
-
-abbrev pub decreases-loop-i : goal.decreases-loop-i
-decreases-loop-i l = l.count - l.i

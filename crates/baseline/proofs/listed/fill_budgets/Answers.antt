@@ -77,9 +77,3 @@ offset_bounds-out-i c = omega arith
 
 pub bounds-out-i : goal.bounds-out-i
 bounds-out-i c = omega arith
-
-pub overflow_add-i : goal.overflow_add-i
-overflow_add-i c = omega arith
-
-pub loop-i-smaller : goal.loop-i-smaller
-loop-i-smaller c = omega arith

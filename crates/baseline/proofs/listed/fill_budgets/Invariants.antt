@@ -17,6 +17,3 @@ use Rattle.baseline.proofs.listed.fill_budgets.Given as goal
 
 abbrev pub invariant-loop-i : goal.invariant-loop-i
 invariant-loop-i l = Entered (pos 0) (budget_in l.parents l.lines l.costs) l.initial.out l.i l.out
-
-abbrev pub decreases-loop-i : goal.decreases-loop-i
-decreases-loop-i l = length l.initial.out - l.i

@@ -114,9 +114,3 @@ offset_bounds-out-at-in-loop-i-2 c = omega arith
 
 pub bounds-out-at-in-loop-i-2 : goal.bounds-out-at-in-loop-i-2
 bounds-out-at-in-loop-i-2 c = simp length-set (omega arith)
-
-pub overflow_add-i : goal.overflow_add-i
-overflow_add-i c = omega arith
-
-pub loop-i-smaller : goal.loop-i-smaller
-loop-i-smaller c = omega arith

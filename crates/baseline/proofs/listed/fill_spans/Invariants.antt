@@ -12,6 +12,3 @@ use Rattle.baseline.proofs.listed.fill_spans.Given as goal
 
 abbrev pub invariant-loop-i : goal.invariant-loop-i
 invariant-loop-i l = (length l.out ≡ l.n * 3) × Written 3 (span_in l.schedule l.lines) (span 0 l.n) l.i (l.i * 3) l.out
-
-abbrev pub decreases-loop-i : goal.decreases-loop-i
-decreases-loop-i l = l.n - l.i

@@ -18,6 +18,3 @@ invariant-loop-i l =
     × (l.at ≡ l.i * (l.to + 1 - l.from))
     × (length l.days ≡ length l.initial.days)
     × Shown ((alike l.count calendar).read l.book l.initial.next).0 l.from l.to l.i l.days
-
-abbrev pub decreases-loop-i : goal.decreases-loop-i
-decreases-loop-i l = l.count - l.i

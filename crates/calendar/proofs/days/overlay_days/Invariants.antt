@@ -9,6 +9,3 @@ use Rattle.calendar.proofs.days.overlay_days.Given as goal
 abbrev pub invariant-loop-i : goal.invariant-loop-i
 invariant-loop-i l =
     Overlaying l.base (λ (day : ℕ). day) (λ day. l.works) rising (λ (b d : ℕ). d) l.book l.count 0 l.initial.next l.initial.days l.i l.before l.next l.days
-
-abbrev pub decreases-loop-i : goal.decreases-loop-i
-decreases-loop-i l = l.count - l.i

@@ -11,6 +11,3 @@ use Rattle.calendar.proofs.days.overlay_exceptions.Given as goal
 abbrev pub invariant-loop-i : goal.invariant-loop-i
 invariant-loop-i l =
     Overlaying l.base (λ (e : content.Exception). e.day) (λ e. e.working) exception (λ (b : ℕ) (e : content.Exception). e.day) l.book l.count 0 l.initial.next l.initial.days l.i l.before l.next l.days
-
-abbrev pub decreases-loop-i : goal.decreases-loop-i
-decreases-loop-i l = l.count - l.i

@@ -27,12 +27,6 @@ free-requires c =
     (holiday_at z (to_z w32 (of_z w32 c.args.year)) c.loop-k.k (omega arith)
     (ap (falls z) (sym c.holiday_in-day.ensures ∙ e) ∙ self z))
 
-pub overflow_add-k : goal.overflow_add-k
-overflow_add-k c = omega arith
-
-pub loop-k-smaller : goal.loop-k-smaller
-loop-k-smaller c = omega arith
-
 pub loop-k-preserved : goal.loop-k-preserved
 unfolding holidays_in
 loop-k-preserved c =

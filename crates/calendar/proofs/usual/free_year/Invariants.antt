@@ -17,6 +17,3 @@ use Rattle.calendar.proofs.usual.free_year.Given as goal
 abbrev pub invariant-loop-k : goal.invariant-loop-k
 invariant-loop-k l =
     (l.k ≤ 13) × (length l.days ≡ length l.initial.days) × (foldl (freed l.base) l.days (drop l.k (holidays_in l.year)) ≡ foldl (freed l.base) l.initial.days (holidays_in l.year))
-
-abbrev pub decreases-loop-k : goal.decreases-loop-k
-decreases-loop-k l = 13 - l.k

@@ -12,6 +12,3 @@ use Rattle.charges.proofs.assigned.fill_assignments.Given as goal
 abbrev pub invariant-loop-i : goal.invariant-loop-i
 invariant-loop-i l =
     FilledRows (assignment l.activities l.resources) link_row 2 l.book l.count l.initial.next l.i l.next l.links × FilledRows (assignment l.activities l.resources) units_row 3 l.book l.count l.initial.next l.i l.next l.units
-
-abbrev pub decreases-loop-i : goal.decreases-loop-i
-decreases-loop-i l = l.count - l.i

@@ -12,6 +12,3 @@ use Rattle.charges.proofs.expensed.fill_expenses.Given as goal
 abbrev pub invariant-loop-i : goal.invariant-loop-i
 invariant-loop-i l =
     FilledRows (expense l.activities) accrual_row 2 l.book l.count l.initial.next l.i l.next l.accruals × FilledRows (expense l.activities) amounts_row 3 l.book l.count l.initial.next l.i l.next l.amounts
-
-abbrev pub decreases-loop-i : goal.decreases-loop-i
-decreases-loop-i l = l.count - l.i

@@ -12,6 +12,3 @@ use Rattle.spans.proofs.stretches.stretch_of.Given as goal
 abbrev pub invariant-loop-i : goal.invariant-loop-i
 invariant-loop-i l =
     Covering (λ j. get_or l.table (j * l.width + l.at) 0) (λ j. get_or l.table (j * l.width + l.at + 1) 0) l.i l.known
-
-abbrev pub decreases-loop-i : goal.decreases-loop-i
-decreases-loop-i l = l.n - l.i
