@@ -15,8 +15,7 @@ pub fn put_numbers(figures: &[i64], out: &mut [u64])
     requires { length out.old ≡ length figures.now }
     ensures { out.new ≡ map bits figures.now }
 {
-    for i in 0..figures.len() {
-        let x = figures[i];
+    for (i, &x) in figures.iter().enumerate() {
         out[i] = to_bits(x);
     }
 }
@@ -26,11 +25,7 @@ pub fn put_row(row: &[u64], at: usize, out: &mut [u64])
     requires { at + length row.now ≤ length out.old }
     ensures { out.new ≡ sets out.old at row.now }
 {
-    let mut k = 0;
-    while k < row.len() {
-        out[at + k] = row[k];
-        k += 1;
-    }
+    out[at..at + row.len()].copy_from_slice(row);
 }
 
 // Puts a number that may be absent, as numbers `at` and `at` + 1.

@@ -7,7 +7,6 @@ ghost use Rattle.model.specs.Days.{is_started, actual_to};
 ghost use Rattle.spans.specs.Columns.{actual_from, remaining_since};
 
 use crate::number_or;
-use crate::stretches::{earlier, later};
 use fields::OptionalNumber;
 use format::Status;
 use records::activities::Activity;
@@ -26,11 +25,8 @@ fn is_started(status: Status) -> bool
 pub fn actual_from(activity: Activity) -> u64
     ensures { result ≡ actual_from (activity_of activity) }
 {
-    let status = activity.status;
-    let started = activity.started;
-    let finished = activity.finished;
-    if is_started(status) {
-        return number_or(started, number_or(finished, 0));
+    if is_started(activity.status) {
+        return number_or(activity.started, number_or(activity.finished, 0));
     }
     0
 }
@@ -41,7 +37,7 @@ fn day_before(date: OptionalNumber, other: u64) -> u64
 {
     match date {
         OptionalNumber::Absent => other,
-        OptionalNumber::Present(d) => { if d == 0 { 0 } else { d - 1 } }
+        OptionalNumber::Present(d) => d.saturating_sub(1),
     }
 }
 
@@ -58,7 +54,7 @@ pub fn remaining_since(status: Status, date: OptionalNumber, start: u64, finish:
 {
     match status {
         Status::NotStarted => start,
-        Status::InProgress => earlier(later(number_or(date, start), start), finish),
+        Status::InProgress => number_or(date, start).max(start).min(finish),
         Status::Completed => 0,
     }
 }

@@ -8,14 +8,14 @@ use crate::Stretch;
 pub fn earlier(a: u64, b: u64) -> u64
     ensures { result ≡ min a b }
 {
-    if a < b { a } else { b }
+    a.min(b)
 }
 
 // The later of two dates.
 pub fn later(a: u64, b: u64) -> u64
     ensures { result ≡ max a b }
 {
-    if a < b { b } else { a }
+    a.max(b)
 }
 
 // The stretch with one more span, which has no dates where its first is 0.
@@ -25,10 +25,9 @@ pub fn widen(known: Stretch, first: u64, last: u64) -> Stretch
     if first == 0 {
         return known;
     }
-    let end = later(first, last);
     Stretch {
-        from: earlier(known.from, first),
-        to: later(known.to, end),
+        from: known.from.min(first),
+        to: known.to.max(first.max(last)),
     }
 }
 

@@ -1,28 +1,16 @@
--- `put_row` meets its contract: one number a turn.
-use Prim.Native.Nat.{ℕ, ◌+◌}
+-- `put_row` meets its contract: a part of the numbers is the row.
+use Prim.Native.Nat.{◌+◌, ◌-◌}
 use native.Mathlib.Omega.{arith}
-use mathlib.Core.Path.{◌≡◌, refl, ap, ◌∙◌}
-use mathlib.Core.List.{[]}
-use lib.ListN.{get_or, drop, length-set, drop_of_length-le}
-use lib.Seq.{sets}
-use Rattle.flat.proofs.Sets.{sets_step}
+use mathlib.Core.Path.{refl, sym, ◌∙◌}
+use lib.ListN.{length}
+use lib.Seq.{take-length}
+use Rattle.std.proofs.lemmas.List.Edits.{sets-eq}
+use Rattle.std.proofs.lemmas.Slice.{put_mid-paste}
 use Rattle.rows.proofs.put_row.Goals as goal
-
-pub loop-k-init : goal.loop-k-init
-loop-k-init c =
-    let e : c.args.at + 0 ≡ c.args.at = omega arith in
-    (omega arith, refl, ap (λ (n : ℕ). sets c.args.out.now n c.args.row.now) e)
-
-pub loop-k-preserved : goal.loop-k-preserved
-loop-k-preserved c =
-    let loop = c.loop-k in
-    (omega arith, length-set loop.out (c.args.at + loop.k) (get_or c.args.row.now loop.k 0) ∙ loop.invariant.1, sets_step loop.out c.args.row.now c.args.at loop.k 0 c.loop-k-test.true ∙ loop.invariant.2)
-
-pub shape_of-out : goal.shape_of-out
-shape_of-out c = c.loop-k.invariant.1
 
 pub returns : goal.returns
 returns c =
-    let loop = c.loop-k in
-    let all : drop loop.k c.args.row.now ≡ [] = drop_of_length-le c.args.row.now {i = loop.k} c.loop-k-test.false in
-    rw all at loop.invariant.2
+    let s = c.args in
+    let row = s.row.now in
+    put_mid-paste s.at (s.at + length row - s.at) s.out.now c.copy_from_slice.new.self row (length row) c.copy_from_slice.ensures.after (omega arith) refl
+    ∙ rw (take-length row) (sym (sets-eq row s.out.now s.at c.requires))

@@ -1,5 +1,4 @@
 -- `is_started` meets its contract: by the status. Found by itself too; here an edit of the first arm is refused for its answer.
-use borrow.Author.Rules.{rules}
 use Rattle.spans.proofs.bounds.is_started.Goals as goal
 
 -- what is not started

@@ -1,12 +1,11 @@
 -- `stretch_of` meets its contract: one row a turn.
-use Prim.Native.Nat.{ℕ, ◌+◌, ◌*◌, ◌-◌, ◌≤◌, ◌<◌}
+use Prim.Native.Nat.{ℕ, ◌+◌, ◌*◌, ◌≤◌, ◌<◌}
 use native.Mathlib.Omega.{arith}
 use mathlib.Core.Path.{◌≡◌}
 use mathlib.Core.List.{List}
 use lib.ListN.{length, get_or, get_or-eq_default}
-use borrow.Author.Rules.{rules}
 use Rattle.flat.proofs.Cells.{row_inside, cell_inside}
-use Rattle.spans.proofs.Covering.{Covering, covering_none, covering_more, covers_closed}
+use Rattle.spans.proofs.Covering.{covering_none, covering_more, covers_closed}
 use Rattle.spans.proofs.stretches.stretch_of.Goals as goal
 use Rattle.spans.proofs.stretches.stretch_of.Goals.{In-loop-i}
 

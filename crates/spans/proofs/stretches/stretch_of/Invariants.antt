@@ -1,12 +1,7 @@
 -- `stretch_of` meets its contract: one row a turn.
-use Prim.Native.Nat.{ℕ, ◌+◌, ◌*◌, ◌-◌, ◌≤◌, ◌<◌}
-use native.Mathlib.Omega.{arith}
-use mathlib.Core.Path.{◌≡◌}
-use mathlib.Core.List.{List}
-use lib.ListN.{length, get_or, get_or-eq_default}
-use borrow.Author.Rules.{rules}
-use Rattle.flat.proofs.Cells.{row_inside, cell_inside}
-use Rattle.spans.proofs.Covering.{Covering, covering_none, covering_more, covers_closed}
+use Prim.Native.Nat.{◌+◌, ◌*◌}
+use lib.ListN.{get_or}
+use Rattle.spans.proofs.Covering.{Covering}
 use Rattle.spans.proofs.stretches.stretch_of.Given as goal
 
 abbrev pub invariant-loop-i : goal.invariant-loop-i

@@ -7,4 +7,4 @@ returns-then-first-eq0 c = widened_none c.args.known c.args.first c.args.last c.
 
 pub returns : goal.returns
 returns c =
-    rw (c.later.ensures, c.earlier.ensures, c.later-end.ensures) (widened_some c.args.known c.args.first c.args.last c.if-first-eq0.false)
+    rw (c.max-2.ensures, c.min.ensures, c.max.ensures) (widened_some c.args.known c.args.first c.args.last c.if-first-eq0.false)
