@@ -31,12 +31,9 @@ pub fn count_days(days: &[u8], counts: &mut [u64], from: u64, to: u64)
     ensures { Counts (works from days.now) from to counts.new }
 {
     let mut n: u64 = 0;
-    let mut date = from;
-    while date <= to + 1 {
-        let i = (date - from) as usize;
-        counts[i] = n;
+    for date in from..to + 2 {
+        counts[(date - from) as usize] = n;
         n += worked(days, from, date);
-        date += 1;
     }
 }
 

@@ -25,12 +25,8 @@ fn fill_week(week: u64, from: u64, to: u64, days: &mut [u8])
     requires from_in_bounds { to + 1 - from ≤ length days.old }
     ensures { Shows (λ date. works_on week (weekday_of (pos date))) from to days.new }
 {
-    let mut date = from;
-    while date <= to {
-        let works = works_on_week(week, date);
-        let i = (date - from) as usize;
-        days[i] = bit(works);
-        date += 1;
+    for date in from..to + 1 {
+        days[(date - from) as usize] = bit(works_on_week(week, date));
     }
 }
 
@@ -70,10 +66,8 @@ fn free_holidays(from: u64, to: u64, days: &mut [u8])
         return;
     }
     let last = (4 * to + 2) / 1461;
-    let mut n = (4 * from + 2) / 1461;
-    while n <= last {
+    for n in (4 * from + 2) / 1461..last + 1 {
         free_year((n + 1970) as i32, from, days);
-        n += 1;
     }
 }
 

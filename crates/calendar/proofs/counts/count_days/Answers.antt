@@ -1,22 +1,21 @@
 -- `count_days` meets its contract: n is the count before the date, and so is each entry passed.
-use Prim.Native.Nat.{ℕ, ◌+◌, ◌-◌, ◌≤◌, ◌<◌}
-use mathlib.Core.Path.{◌≡◌, refl, sym, ◌∙◌}
+use Prim.Native.Nat.{◌-◌}
+use mathlib.Core.Path.{refl, sym, ◌∙◌}
 use native.Mathlib.Omega.{arith}
-use borrow.Author.Rules.{rules}
 use lib.ListN.{length, length-set}
 use Rattle.lists.specs.Lists.{span, keep}
-use Rattle.calendar.specs.Tables.{entry, works}
+use Rattle.calendar.specs.Tables.{works}
 use Rattle.calendar.proofs.Spans.{entries_more, one_most, kept_none, kept_more}
 use Rattle.calendar.proofs.counts.count_days.Goals as goal
 
 pub loop-date-init : goal.loop-date-init
-loop-date-init c = (omega arith, refl, omega arith, sym (kept_none _ _), λ e h k. absurd (omega arith))
+loop-date-init c = (refl, omega arith, sym (kept_none _ _), λ e h k. absurd (omega arith))
 
-pub offset_bounds-counts-i : goal.offset_bounds-counts-i
-offset_bounds-counts-i c = omega arith
+pub offset_bounds-counts-date : goal.offset_bounds-counts-date
+offset_bounds-counts-date c = omega arith
 
-pub bounds-counts-i : goal.bounds-counts-i
-bounds-counts-i c = omega arith
+pub bounds-counts-date : goal.bounds-counts-date
+bounds-counts-date c = omega arith
 
 pub worked-n-requires : goal.worked-n-requires
 worked-n-requires c = omega arith
@@ -26,23 +25,19 @@ overflow_add-n c =
     let s = c.args in
     omega (arith, c.worked-n.ensures, one_most (works s.from s.days.now c.loop-date.date))
 
-pub loop-date-smaller : goal.loop-date-smaller
-loop-date-smaller c = omega arith
-
 pub loop-date-preserved : goal.loop-date-preserved
 loop-date-preserved c =
     let s = c.args in
     let l = c.loop-date in
     let p = works s.from s.days.now in (
-      omega arith,
-      length-set l.counts (l.date - s.from) l.n ∙ l.invariant.1,
+      length-set l.counts (l.date - s.from) l.n ∙ l.invariant.0,
       omega (arith, c.worked-n.ensures, one_most (p l.date)),
-      omega (arith, c.worked-n.ensures, kept_more p s.from l.date l.invariant.0),
-      entries_more (λ e. length (keep p (span s.from (e - s.from)))) s.from l.date l.counts l.n (omega arith) (omega arith) l.invariant.3 l.invariant.4,
+      omega (arith, c.worked-n.ensures, kept_more p s.from l.date l.auto.date),
+      entries_more (λ e. length (keep p (span s.from (e - s.from)))) s.from l.date l.counts l.n (omega arith) (omega arith) l.invariant.2 l.invariant.3,
     )
 
 pub shape_of-counts : goal.shape_of-counts
-shape_of-counts c = c.loop-date.invariant.1
+shape_of-counts c = c.loop-date.invariant.0
 
 pub returns : goal.returns
-returns c = record { at = λ e h k. c.loop-date.invariant.4 e h (omega arith) }
+returns c = record { at = λ e h k. c.loop-date.invariant.3 e h (omega arith) }

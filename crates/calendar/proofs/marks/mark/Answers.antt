@@ -1,7 +1,6 @@
 -- `mark` meets its contract: outside the table nothing is set.
 use Prim.Native.Nat.{◌-◌}
 use mathlib.Core.Path.{sym, ap}
-use borrow.Author.Rules.{rules}
 use borrow.Author.Tests.{le-leb, lt-leb}
 use lib.ListN.{set}
 use lib.Seq.{set_out}
