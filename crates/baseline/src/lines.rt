@@ -74,7 +74,7 @@ pub fn take_lines(book: &[u8], list: Section, activities: u64, last: bool, out: 
 {
     let count = list.count;
     let mut next = list.first;
-    for i in 0..count {
+    for _ in 0..count {
         let line = read_baseline_line(book, next, activities);
         take_line(line, last, out);
         next = line.next;

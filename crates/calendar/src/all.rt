@@ -20,14 +20,11 @@ pub fn fill_all(book: &[u8], calendars: Section, from: u64, to: u64, days: &mut 
         return;
     }
     let width = (to + 1 - from) as usize;
-    let count = calendars.count;
     let mut next = calendars.first;
-    let mut at: usize = 0;
-    for i in 0..count {
+    for i in 0..calendars.count {
         let calendar = read_calendar(book, next);
-        let end = at + width;
+        let at = i as usize * width;
+        fill_days(book, calendar, from, to, &mut days[at..at + width]);
         next = calendar.next;
-        fill_days(book, calendar, from, to, &mut days[at..end]);
-        at = end;
     }
 }

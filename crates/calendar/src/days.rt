@@ -18,10 +18,9 @@ use sections::calendars::Calendar;
 fn overlay_days(book: &[u8], list: Section, works: bool, base: u64, days: &mut [u8])
     ensures { days.new ≡ overlaid base (λ (day : ℕ). day) (λ day. works) (elements layout.rising (λ before day. day) 0 book.now list) days.old }
 {
-    let count = list.count;
     let mut next = list.first;
-    let mut before: u64 = 0;
-    for i in 0..count {
+    let mut before = 0;
+    for _ in 0..list.count {
         let d = rising(book, next, before);
         mark(days, base, d.value, works);
         before = d.value;
@@ -33,10 +32,9 @@ fn overlay_days(book: &[u8], list: Section, works: bool, base: u64, days: &mut [
 fn overlay_exceptions(book: &[u8], list: Section, base: u64, days: &mut [u8])
     ensures { days.new ≡ overlaid base (λ (e : content.Exception). e.day) (λ e. e.working) (elements layout.exception (λ before e. e.day) 0 book.now list) days.old }
 {
-    let count = list.count;
     let mut next = list.first;
-    let mut before: u64 = 0;
-    for i in 0..count {
+    let mut before = 0;
+    for _ in 0..list.count {
         let e = read_exception(book, next, before);
         mark(days, base, e.day, e.working);
         before = e.day;
@@ -51,12 +49,8 @@ pub fn fill_days(book: &[u8], calendar: Calendar, from: u64, to: u64, days: &mut
     requires calendar_in_range { CalendarInRange (calendar_of book.now calendar) }
     ensures { Shows (is_working (calendar_of book.now calendar)) from to days.new }
 {
-    let region = calendar.region;
-    let holidays = calendar.holidays;
-    let extra = calendar.extra;
-    let exceptions = calendar.exceptions;
-    fill_usual(calendar.week, region, from, to, days);
-    overlay_days(book, holidays, false, from, days);
-    overlay_days(book, extra, true, from, days);
-    overlay_exceptions(book, exceptions, from, days);
+    fill_usual(calendar.week, calendar.region, from, to, days);
+    overlay_days(book, calendar.holidays, false, from, days);
+    overlay_days(book, calendar.extra, true, from, days);
+    overlay_exceptions(book, calendar.exceptions, from, days);
 }

@@ -17,39 +17,39 @@ use Rattle.baseline.proofs.Taking.{Taking, taking_none, taking_more, taking_end,
 use Rattle.baseline.proofs.lines.take_lines.Goals as goal
 use Rattle.baseline.proofs.lines.take_lines.Goals.{After-read_baseline_line-line}
 
-pub loop-i-init : goal.loop-i-init
-loop-i-init c = (reading_none _ _ _ _, taking_none _ _ _)
+pub loop-init : goal.loop-init
+loop-init c = (reading_none _ _ _ _, taking_none _ _ _)
 
 -- what is read is the next line
 is_next : (c : After-read_baseline_line-line) →
     let l = baseline_line_of c.read_baseline_line-line.result in
-    get_or ((alike c.args.list.count (baseline_line c.args.activities)).read c.args.book.now c.args.list.first).0 c.loop-i.i l ≡ l
-is_next c = reading_is _ _ _ _ c.loop-i.invariant.0 c.loop-i-test.true c.read_baseline_line-line.ensures _
+    get_or ((alike c.args.list.count (baseline_line c.args.activities)).read c.args.book.now c.args.list.first).0 c.loop.counter l ≡ l
+is_next c = reading_is _ _ _ _ c.loop.invariant.0 c.loop-test.true c.read_baseline_line-line.ensures _
 
 pub take_line-requires : goal.take_line-requires
 unfolding elements baseline_line_of
 take_line-requires c =
     let lines = c.requires.lines in
     let length-all = read_length (baseline_line c.args.activities) c.args.book.now c.args.list.count c.args.list.first in
-    let range = read_range (BaselineLineInRange c.args.activities) _ lines.ranges lines.listed c.loop-i.i (baseline_line_of c.read_baseline_line-line.result) (omega (arith, c.loop-i-test.true, length-all)) (is_next (goal.at.take_line-requires c).After-read_baseline_line-line) in
-    omega (arith, range.activity, c.loop-i.invariant.1.long, c.requires.out_len.0)
+    let range = read_range (BaselineLineInRange c.args.activities) _ lines.ranges lines.listed c.loop.counter (baseline_line_of c.read_baseline_line-line.result) (omega (arith, c.loop-test.true, length-all)) (is_next (goal.at.take_line-requires c).After-read_baseline_line-line) in
+    omega (arith, range.activity, c.loop.invariant.1.long, c.requires.out_len.0)
 
-pub loop-i-preserved : goal.loop-i-preserved
-loop-i-preserved c =
+pub loop-preserved : goal.loop-preserved
+loop-preserved c =
     let length-all = read_length (baseline_line c.args.activities) c.args.book.now c.args.list.count c.args.list.first in (
-      reading_more _ _ _ _ c.loop-i.invariant.0 c.loop-i-test.true c.read_baseline_line-line.ensures,
-      taking_more c.loop-i.invariant.1 (baseline_line_of c.read_baseline_line-line.result) (omega (arith, c.loop-i-test.true, length-all)) (is_next (goal.at.loop-i-preserved c).After-read_baseline_line-line) c.take_line.ensures,
+      reading_more _ _ _ _ c.loop.invariant.0 c.loop-test.true c.read_baseline_line-line.ensures,
+      taking_more c.loop.invariant.1 (baseline_line_of c.read_baseline_line-line.result) (omega (arith, c.loop-test.true, length-all)) (is_next (goal.at.loop-preserved c).After-read_baseline_line-line) c.take_line.ensures,
     )
 
 pub shape_of-out : goal.shape_of-out
-shape_of-out c = c.loop-i.invariant.1.long
+shape_of-out c = c.loop.invariant.1.long
 
 pub returns : goal.returns
 unfolding elements
 returns c =
-    let loop = c.loop-i in
+    let loop = c.loop in
     let lines = c.requires.lines in
     let length-all = read_length (baseline_line c.args.activities) c.args.book.now c.args.list.count c.args.list.first in
-    taking_end loop.invariant.1 (omega (arith, c.loop-i-test.false, length-all))
+    taking_end loop.invariant.1 (omega (arith, c.loop-test.false, length-all))
     ∙ ap (λ (ls : List BaselineLine). foldl (taken c.args.last) c.args.out.now ls) (sym lines.listed)
     ∙ taken_all c.args.last (content c.args.book.now) c.args.activities lines.counted lines.ranges c.args.out.now c.requires.out_len.0 c.requires.out_len.1

@@ -16,6 +16,6 @@ use Rattle.baseline.specs.Lines.{taken}
 use Rattle.baseline.proofs.Taking.{Taking, taking_none, taking_more, taking_end, taken_all, read_range}
 use Rattle.baseline.proofs.lines.take_lines.Given as goal
 
-abbrev pub invariant-loop-i : goal.invariant-loop-i
-invariant-loop-i l =
-    Reading (baseline_line l.activities) l.book l.count l.initial.next l.i l.next × Taking l.last ((alike l.count (baseline_line l.activities)).read l.book l.initial.next).0 l.initial.out l.i l.out
+abbrev pub invariant-loop : goal.invariant-loop
+invariant-loop l =
+    Reading (baseline_line l.activities) l.book l.count l.initial.next l.counter l.next × Taking l.last ((alike l.count (baseline_line l.activities)).read l.book l.initial.next).0 l.initial.out l.counter l.out

@@ -1,7 +1,5 @@
 -- `fill_days` meets its contract: the week and the region, overlaid with the calendar's lists.
-use mathlib.Core.Path.{◌∙◌}
 use native.Mathlib.Omega.{arith}
-use borrow.Author.Rules.{rules}
 use Rattle.sections.specs.Sections.{calendar_of}
 use Rattle.calendar.proofs.Overlays.{shows_working}
 use Rattle.calendar.proofs.days.fill_days.Goals as goal

@@ -1,5 +1,4 @@
 -- `fill_usual` meets its contract: no region has no holidays.
-use borrow.Author.Rules.{rules}
 use Rattle.model.specs.Calendar.{is_region_holiday}
 use Rattle.calendar.proofs.usual.fill_usual.Goals as goal
 
