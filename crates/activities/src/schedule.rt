@@ -52,16 +52,6 @@ pub const PERCENT: usize = 12;
 // Up to so many activities the tables of a call are small ones, which take less to clear.
 pub const FEW: usize = 32;
 
-fn status_number(status: Status) -> u64
-    ensures { result ≡ status_number status }
-{
-    match status {
-        Status::NotStarted => 0,
-        Status::InProgress => 1,
-        Status::Completed => 2,
-    }
-}
-
 // 1 where there is a percentage.
 fn given(percent: OptionalAmount) -> u64
     ensures { result ≡ percent_given (amount_option percent) }
@@ -83,36 +73,24 @@ fn percent_bits(percent: OptionalAmount) -> u64
 }
 
 // The numbers of an activity, under a data date.
-fn row_of(date: OptionalNumber, activity: Activity) -> [u64; 13]
+fn row_of(date: OptionalNumber, activity: Activity) -> [u64; SCHEDULE_WIDTH]
     ensures { result ≡ schedule_row (number_option date) (activity_of activity) }
 {
-    let parent = activity.parent;
-    let calendar = activity.calendar;
-    let status = activity.status;
-    let finished = activity.finished;
-    let percent = activity.percent;
-    let parent = mark_of(parent) as u64;
-    let calendar = number_or(calendar, 0);
     let from = actual_from(activity);
-    let to = actual_to(finished, date, from);
-    let since = remaining_since(status, date, activity.start, activity.finish);
-    let number = status_number(status);
-    let has = given(percent);
-    let bits = percent_bits(percent);
     [
-        parent,
-        calendar,
+        mark_of(activity.parent) as u64,
+        number_or(activity.calendar, 0),
         activity.start,
         activity.finish,
         from,
-        to,
-        since,
+        actual_to(activity.finished, date, from),
+        remaining_since(activity.status, date, activity.start, activity.finish),
         activity.finish,
-        number,
+        activity.status as u64,
         activity.working,
         activity.remaining,
-        has,
-        bits,
+        given(activity.percent),
+        percent_bits(activity.percent),
     ]
 }
 
@@ -121,13 +99,11 @@ fn fill_rows(book: &[u8], list: Section, calendars: u64, date: OptionalNumber, o
     requires { length out.old ≡ list.count * 13 }
     ensures { out.new ≡ flat_map (schedule_row (number_option date)) (alike_in (layout.activity calendars list.count) book.now list) }
 {
-    let count = list.count;
     let mut next = list.first;
-    for i in 0..count {
-        let a = read_activity(book, next, calendars, count);
-        let row = row_of(date, a);
-        put_row(&row, i as usize * SCHEDULE_WIDTH, out);
-        next = a.next;
+    for i in 0..list.count {
+        let activity = read_activity(book, next, calendars, list.count);
+        put_row(&row_of(date, activity), i as usize * SCHEDULE_WIDTH, out);
+        next = activity.next;
     }
 }
 
@@ -141,22 +117,19 @@ pub fn fill_schedule(book: &[u8], data_date: OptionalNumber, plan: Plan, out: &m
 }
 
 // The row of one activity alone.
-pub fn row_at(book: &[u8], data_date: OptionalNumber, plan: Plan, i: u64) -> [u64; 13]
+pub fn row_at(book: &[u8], data_date: OptionalNumber, plan: Plan, i: u64) -> [u64; SCHEDULE_WIDTH]
     requires plan_of { IsPlanOf book.now data_date plan }
     requires i_lt_count { i < plan.activities.count }
     ensures { result ≡ schedule_row (content book.now).data_date (activity_at (content book.now) i) }
 {
     let calendars = plan.calendars.count;
-    let list = plan.activities;
-    let activities = list.count;
-    let first = list.first;
+    let activities = plan.activities.count;
     let element = Element::Activity {
         calendars,
         activities,
     };
-    let at = skip_all(book, first, element, i);
-    let activity = read_activity(book, at, calendars, activities);
-    row_of(data_date, activity)
+    let at = skip_all(book, plan.activities.first, element, i);
+    row_of(data_date, read_activity(book, at, calendars, activities))
 }
 
 // Number k of activity i.
@@ -172,7 +145,7 @@ pub fn first_at(schedule: &[u64], i: usize, way: Way) -> u64
     requires { i * 13 + 12 < length schedule.now }
     ensures { result ≡ first_in schedule.now way i }
 {
-    schedule[i * SCHEDULE_WIDTH + DATES + way_number(way) * 2]
+    entry(schedule, i, DATES + way_number(way) * 2)
 }
 
 // The last date of its span.
@@ -180,24 +153,24 @@ pub fn last_at(schedule: &[u64], i: usize, way: Way) -> u64
     requires { i * 13 + 12 < length schedule.now }
     ensures { result ≡ last_in schedule.now way i }
 {
-    schedule[i * SCHEDULE_WIDTH + DATES + 1 + way_number(way) * 2]
+    entry(schedule, i, DATES + way_number(way) * 2 + 1)
 }
 
 pub fn status_at(schedule: &[u64], i: usize) -> Status
     requires { i * 13 + 12 < length schedule.now }
     ensures { result ≡ status_of (entry_at schedule.now i 8) }
 {
-    status_of(schedule[i * SCHEDULE_WIDTH + STATUS])
+    status_of(entry(schedule, i, STATUS))
 }
 
 pub fn percent_at(schedule: &[u64], i: usize) -> OptionalAmount
     requires { i * 13 + 12 < length schedule.now }
     ensures { amount_option result ≡ percent_of (entry_at schedule.now i 11) (entry_at schedule.now i 12) }
 {
-    if schedule[i * SCHEDULE_WIDTH + GIVEN] == 0 {
+    if entry(schedule, i, GIVEN) == 0 {
         return OptionalAmount::Absent;
     }
-    OptionalAmount::Present(from_bits(schedule[i * SCHEDULE_WIDTH + PERCENT]))
+    OptionalAmount::Present(from_bits(entry(schedule, i, PERCENT)))
 }
 
 // The parents: an index, or 500 for none.

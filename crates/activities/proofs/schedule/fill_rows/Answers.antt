@@ -17,17 +17,17 @@ pub loop-i-init : goal.loop-i-init
 loop-i-init c = rows_none _ _ _ _ _ _ (row_wide _) _ c.requires
 
 pub slice_bounds-put_row-end : goal.slice_bounds-put_row-end
-slice_bounds-put_row-end c = sym (ap length c.row_of-row.ensures ∙ row_wide _ _)
+slice_bounds-put_row-end c = sym (ap length c.row_of.ensures ∙ row_wide _ _)
 
 pub put_row-requires : goal.put_row-requires
 put_row-requires c =
     let loop = c.loop-i in
-    omega (arith, ap length c.row_of-row.ensures ∙ row_wide _ _, loop.invariant.long, c.loop-i-test.true)
+    omega (arith, ap length c.row_of.ensures ∙ row_wide _ _, loop.invariant.long, c.loop-i-test.true)
 
 pub loop-i-preserved : goal.loop-i-preserved
 loop-i-preserved c =
     let loop = c.loop-i in
-    rows_more loop.invariant (row_wide _) c.loop-i-test.true c.read_activity-a.ensures (c.put_row.ensures ∙ ap (sets loop.out (loop.i * 13)) c.row_of-row.ensures)
+    rows_more loop.invariant (row_wide _) c.loop-i-test.true c.read_activity-activity.ensures (c.put_row.ensures ∙ ap (sets loop.out (loop.i * 13)) c.row_of.ensures)
 
 pub shape_of-out : goal.shape_of-out
 shape_of-out c = c.loop-i.invariant.long ∙ sym c.requires

@@ -15,4 +15,4 @@ use Rattle.activities.proofs.schedule.fill_rows.Given as goal
 
 abbrev pub invariant-loop-i : goal.invariant-loop-i
 invariant-loop-i l =
-    FilledRows (activity l.calendars l.count) (schedule_row (number_option l.date)) 13 l.book l.count l.initial.next l.i l.next l.out
+    FilledRows (activity l.calendars l.list.count) (schedule_row (number_option l.date)) 13 l.book l.list.count l.initial.next l.i l.next l.out

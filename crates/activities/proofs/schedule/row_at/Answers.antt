@@ -21,7 +21,7 @@ returns c =
     let codec = layout.activity plan.calendars.count plan.activities.count in
     c.row_of.ensures
     ∙ ap₂ schedule_row (sym p.data_date)
-    (ap (λ (v : Activity × Pos). v.0) c.read_activity-activity.ensures
+    (ap (λ (v : Activity × Pos). v.0) c.read_activity.ensures
     ∙ ap (λ (q : Pos). (codec.read book q).0) c.skip_all-at.ensures
     ∙ sym (element_at codec book plan.activities.count c.args.i plan.activities.first no_activity c.requires.i_lt_count)
     ∙ sym (ap (λ (l : List Activity). get_or l c.args.i no_activity) p.activities.listed))
