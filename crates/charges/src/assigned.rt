@@ -11,11 +11,12 @@ ghost use Rattle.sections.specs.Sections.{alike_in};
 ghost use Rattle.book.specs.Plan.{IsPlanOf};
 ghost use Rattle.charges.specs.Assigned.{account_by, link_row, units_row, AreAssigned};
 
-use crate::set_three;
 use book::layout::Plan;
 use fields::OptionalNumber;
 use records::activities::{Assignment, read_assignment};
+use rows::put_row;
 use sections::Section;
+use spans::number_or;
 
 // What an assignment is booked to: 500, which is no activity, without a resource.
 fn account_of(resource: OptionalNumber, activity: u64) -> u64
@@ -25,32 +26,6 @@ fn account_of(resource: OptionalNumber, activity: u64) -> u64
         OptionalNumber::Absent => 500,
         OptionalNumber::Present(_) => activity,
     }
-}
-
-// The resource; 0 for none.
-fn source_of(resource: OptionalNumber) -> u64
-    ensures { result ≡ get_or (number_option resource) 0 }
-{
-    match resource {
-        OptionalNumber::Absent => 0,
-        OptionalNumber::Present(r) => r,
-    }
-}
-
-fn set_link(x: Assignment, at: usize, links: &mut [u64])
-    requires { at + 1 < length links.old }
-    ensures { links.new ≡ sets links.old at (link_row (assignment_of x)) }
-{
-    let resource = x.resource;
-    links[at] = account_of(resource, x.activity);
-    links[at + 1] = source_of(resource);
-}
-
-fn set_units(x: Assignment, at: usize, units: &mut [i64])
-    requires { at + 2 < length units.old }
-    ensures { units.new ≡ sets units.old at (units_row (assignment_of x)) }
-{
-    set_three(units, at, x.planned, x.actual, x.remaining);
 }
 
 // The assignments, of a book with so many activities and resources.
@@ -66,12 +41,12 @@ fn fill_assignments(
     ensures booked { links.new ≡ flat_map link_row (alike_in (layout.assignment activities resources) book.now list) }
     ensures counted { units.new ≡ flat_map units_row (alike_in (layout.assignment activities resources) book.now list) }
 {
-    let count = list.count;
     let mut next = list.first;
-    for i in 0..count {
+    for i in 0..list.count {
         let x = read_assignment(book, next, activities, resources);
-        set_link(x, i as usize * 2, links);
-        set_units(x, i as usize * 3, units);
+        let link = [account_of(x.resource, x.activity), number_or(x.resource, 0)];
+        put_row(&link, i as usize * 2, links);
+        put_row(&[x.planned, x.actual, x.remaining], i as usize * 3, units);
         next = x.next;
     }
 }

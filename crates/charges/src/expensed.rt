@@ -10,38 +10,11 @@ ghost use Rattle.sections.specs.Sections.{alike_in};
 ghost use Rattle.book.specs.Plan.{IsPlanOf};
 ghost use Rattle.charges.specs.Expensed.{accrual_row, amounts_row, AreExpensed};
 
-use crate::set_three;
 use book::layout::Plan;
 use fields::OptionalNumber;
-use format::Accrual;
 use records::activities::{Expense, read_expense};
+use rows::put_row;
 use sections::Section;
-
-fn accrual_number(accrual: Accrual) -> u64
-    ensures { result ≡ accrual_number accrual }
-{
-    match accrual {
-        Accrual::Start => 0,
-        Accrual::End => 1,
-        Accrual::Uniform => 2,
-    }
-}
-
-fn set_accrual(e: Expense, at: usize, accruals: &mut [u64])
-    requires { at + 1 < length accruals.old }
-    ensures { accruals.new ≡ sets accruals.old at (accrual_row (expense_of e)) }
-{
-    let accrual = e.accrual;
-    accruals[at] = e.activity;
-    accruals[at + 1] = accrual_number(accrual);
-}
-
-fn set_amounts(e: Expense, at: usize, amounts: &mut [i64])
-    requires { at + 2 < length amounts.old }
-    ensures { amounts.new ≡ sets amounts.old at (amounts_row (expense_of e)) }
-{
-    set_three(amounts, at, e.planned, e.actual, e.remaining);
-}
 
 // The expenses, of a book with so many activities.
 fn fill_expenses(
@@ -55,12 +28,11 @@ fn fill_expenses(
     ensures booked { accruals.new ≡ flat_map accrual_row (alike_in (layout.expense activities) book.now list) }
     ensures counted { amounts.new ≡ flat_map amounts_row (alike_in (layout.expense activities) book.now list) }
 {
-    let count = list.count;
     let mut next = list.first;
-    for i in 0..count {
+    for i in 0..list.count {
         let e = read_expense(book, next, activities);
-        set_accrual(e, i as usize * 2, accruals);
-        set_amounts(e, i as usize * 3, amounts);
+        put_row(&[e.activity, e.accrual as u64], i as usize * 2, accruals);
+        put_row(&[e.planned, e.actual, e.remaining], i as usize * 3, amounts);
         next = e.next;
     }
 }

@@ -21,7 +21,7 @@ pub fn put_numbers(figures: &[i64], out: &mut [u64])
 }
 
 // Sets a row at a place.
-pub fn put_row(row: &[u64], at: usize, out: &mut [u64])
+pub fn put_row<T: Copy>(row: &[T], at: usize, out: &mut [T])
     requires { at + length row.now ≤ length out.old }
     ensures { out.new ≡ sets out.old at row.now }
 {

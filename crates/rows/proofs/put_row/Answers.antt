@@ -9,7 +9,7 @@ use Rattle.std.proofs.lemmas.Slice.{put_mid-paste}
 use Rattle.rows.proofs.put_row.Goals as goal
 
 pub returns : goal.returns
-returns c =
+returns g c =
     let s = c.args in
     let row = s.row.now in
     put_mid-paste s.at (s.at + length row - s.at) s.out.now c.copy_from_slice.new.self row (length row) c.copy_from_slice.ensures.after (omega arith) refl

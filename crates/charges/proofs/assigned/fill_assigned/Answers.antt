@@ -1,5 +1,4 @@
 -- `fill_assigned` meets its contract: the assignments at the plan's places.
-use borrow.Author.Rules.{rules}
 use Rattle.charges.specs.Assigned.{links_of, units_in}
 use Rattle.charges.proofs.assigned.fill_assigned.Goals as goal
 

@@ -1,5 +1,4 @@
 -- `fill_expensed` meets its contract: the expenses at the plan's places.
-use borrow.Author.Rules.{rules}
 use Rattle.charges.proofs.expensed.fill_expensed.Goals as goal
 
 pub returns : goal.returns
