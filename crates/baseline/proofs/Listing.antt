@@ -3,7 +3,7 @@ use Prim.Native.Nat.{ℕ, zero, suc, ◌+◌, ◌*◌, ◌≤◌, ◌<◌}
 use native.Mathlib.Numerals.{add-one, add-two}
 use native.Mathlib.Omega.{arith}
 use native.Mathlib.Decide.{dec_lt}
-use mathlib.Core.Path.{◌≡◌, refl, ap, sym, ◌∙◌, subst, fun_ext}
+use mathlib.Core.Path.{◌≡◌, refl, ap, ap₂, sym, ◌∙◌, subst, fun_ext}
 use mathlib.Core.Bool.{Bool, true, false, cond}
 use mathlib.Core.List.{List, [], ◌∷◌, map, flat_map}
 use mathlib.Core.Option
@@ -98,9 +98,8 @@ abbrev pub budget_in : List ℕ → List ℕ → List ℤ → ℕ → ℤ
 budget_in marks lines costs i = if_leaf (get_or marks i 0) (cond (eqb (get_or lines (i * 5) 0) 0) (get_or costs (i * 3) (pos 0)) (of_bits (get_or lines (i * 5 + 4) 0)))
 
 -- three numbers set one behind the other
-pub three_set :
-    (out : List ℕ) (at : ℕ) {x y a b : ℕ} (z : ℕ) → x ≡ a → y ≡ b → set (set (set out at x) (at + 1) y) (at + 2) z ≡ sets out at (a ∷ b ∷ z ∷ [])
-three_set out at z e f = rw (e, f, add-one at, add-two at) refl
+pub three_set : (out : List ℕ) (at : ℕ) {x y a b : ℕ} (z : ℕ) → x ≡ a → y ≡ b → sets out at (x ∷ y ∷ z ∷ []) ≡ sets out at (a ∷ b ∷ z ∷ [])
+three_set out at z e f = ap₂ (λ (x y : ℕ). sets out at (x ∷ y ∷ z ∷ [])) e f
 
 -- ---- of any book
 

@@ -209,11 +209,9 @@ taken_length last table l = go (counts last (get_or table (l.activity * 5) 0))
 module _ (last : Bool) (table : List ℕ) (l : BaselineLine) {b : Bool} (is : b ≡ counts last (get_or table (l.activity * 5) 0)) where
   pub taken_set :
       b ≡ true → (cost : ℕ) → cost ≡ bits l.cost → let at = l.activity * 5 in
-      set (set (set (set (set table at 1) (at + 1) l.start) (at + 2) l.finish) (at + 3) l.minutes) (at + 4) cost ≡ taken last table l
+      sets table at (1 ∷ l.start ∷ l.finish ∷ l.minutes ∷ cost ∷ []) ≡ taken last table l
   unfolding taken
-  taken_set t cost e =
-      let at = l.activity * 5 in
-      rw (← is, t, e) (rw (add-one at, add-two at, add-three at, add-four at) refl)
+  taken_set t cost e = rw (← is, t, e) refl
 
   pub taken_past : b ≡ false → table ≡ taken last table l
   unfolding taken

@@ -11,6 +11,7 @@ ghost use Rattle.baseline.specs.Lines as table;
 use book::layout::Baseline;
 use money::words::to_bits;
 use records::activities::{BaselineLine, read_baseline_line};
+use rows::put_row;
 use sections::Section;
 
 // The numbers of a line, and the places among them: 1 where there is a line, its start, its finish, its working minutes, the bits of its cost.
@@ -28,16 +29,13 @@ pub const COST: usize = 4;
 pub fn lines_of(baseline: Baseline) -> Section
     ensures { (s : List ℕ) (n : ℕ) → get_or (lines_of s n baseline) [] ≡ alike_in (layout.baseline_line n) s result }
 {
-    let lines = baseline.lines;
     if baseline.present {
-        return lines;
+        return baseline.lines;
     }
-    let first = lines.first;
-    let next = lines.next;
     Section {
         count: 0,
-        first,
-        next,
+        first: baseline.lines.first,
+        next: baseline.lines.next,
     }
 }
 
@@ -45,10 +43,7 @@ pub fn lines_of(baseline: Baseline) -> Section
 fn counts(last: bool, mark: u64) -> bool
     ensures { result ≡ table.counts last mark }
 {
-    if last {
-        return true;
-    }
-    mark == 0
+    last || mark == 0
 }
 
 // Takes a line into the row of its activity, where it counts.
@@ -58,11 +53,11 @@ fn take_line(line: BaselineLine, last: bool, out: &mut [u64])
 {
     let at = line.activity as usize * LINE_WIDTH;
     if counts(last, out[at]) {
-        out[at] = 1;
-        out[at + START] = line.start;
-        out[at + FINISH] = line.finish;
-        out[at + MINUTES] = line.minutes;
-        out[at + COST] = to_bits(line.cost);
+        put_row(
+            &[1, line.start, line.finish, line.minutes, to_bits(line.cost)],
+            at,
+            out,
+        );
     }
 }
 
@@ -72,9 +67,8 @@ pub fn take_lines(book: &[u8], list: Section, activities: u64, last: bool, out: 
     requires out_len { (length out.old ≡ activities * 5) × table.Zeros out.old }
     ensures { out.new ≡ table.lines_table last (content book.now) }
 {
-    let count = list.count;
     let mut next = list.first;
-    for _ in 0..count {
+    for _ in 0..list.count {
         let line = read_baseline_line(book, next, activities);
         take_line(line, last, out);
         next = line.next;

@@ -7,13 +7,14 @@ ghost use Rattle.money.specs.Words.{of_bits};
 ghost use Rattle.tree.specs.Tables.{own_costs};
 ghost use Rattle.activities.specs.Schedule.{schedule_of};
 ghost use Rattle.answers.specs.Opened.{IsOpened};
-ghost use Rattle.baseline.specs.Lines.{lines_table, Zeros, IsLines};
+ghost use Rattle.baseline.specs.Lines.{lines_table, IsLines};
 ghost use Rattle.baseline.specs.Listed.{listed_of, if_leaf, budgets_of};
 
-use crate::lines::{LINE_WIDTH, lines_of, take_lines};
-use activities::schedule::{FEW, SCHEDULE_WIDTH, parent_marks};
+use crate::lines::{COST, FINISH, LINE_WIDTH, START, lines_of, take_lines};
+use activities::schedule::{CALENDAR, DATES, FEW, SCHEDULE_WIDTH, parent_marks};
 use answers::open::Opened;
 use money::words::from_bits;
+use rows::put_row;
 use sections::Section;
 use tree::table::COST_WIDTH;
 
@@ -51,11 +52,13 @@ fn fill_spans(schedule: &[u64], lines: &[u64], n: usize, out: &mut [u64])
     for i in 0..n {
         let row = i * SCHEDULE_WIDTH;
         let line = i * LINE_WIDTH;
-        let at = i * LISTED_WIDTH;
         let mark = lines[line];
-        out[at] = lined_or(mark, lines[line + 1], schedule[row + 2]);
-        out[at + 1] = lined_or(mark, lines[line + 2], schedule[row + 3]);
-        out[at + 2] = schedule[row + 1];
+        let span = [
+            lined_or(mark, lines[line + START], schedule[row + DATES]),
+            lined_or(mark, lines[line + FINISH], schedule[row + DATES + 1]),
+            schedule[row + CALENDAR],
+        ];
+        put_row(&span, i * LISTED_WIDTH, out);
     }
 }
 
@@ -67,29 +70,35 @@ fn fill_budgets(schedule: &[u64], lines: &[u64], costs: &[i64], out: &mut [i64])
     let parents = parent_marks(schedule);
     for i in 0..out.len() {
         let line = i * LINE_WIDTH;
-        let cost = costs[i * COST_WIDTH];
-        out[i] = frozen_or(parents[i], lines[line], lines[line + 4], cost);
+        out[i] = frozen_or(
+            parents[i],
+            lines[line],
+            lines[line + COST],
+            costs[i * COST_WIDTH],
+        );
     }
 }
 
-// With a table of zeros for the lines.
-fn list_by(
+// With a table of at most N numbers for the lines.
+fn list_by<const N: usize>(
     book: &[u8],
     list: Section,
     schedule: &[u64],
     costs: &[i64],
-    lines: &mut [u64],
     listed: &mut [u64],
     budgets: &mut [i64],
 )
     requires lines { IsLines book.now list (length budgets.old) × InRange (content book.now) × (length budgets.old ≤ 500) }
+    requires room { (length budgets.old * 5 ≤ N) × (N ≤ 2500) }
     requires schedule_value { schedule.now ≡ schedule_of (content book.now) }
     requires costs_value { costs.now ≡ own_costs (content book.now) }
-    requires lines_len { (length lines.old ≡ length budgets.old * 5) × Zeros lines.old × (length listed.old ≡ length budgets.old * 3) }
+    requires listed_len { length listed.old ≡ length budgets.old * 3 }
     ensures listed { listed.new ≡ listed_of (content book.now) }
     ensures budgets { budgets.new ≡ budgets_of (content book.now) }
 {
     let n = budgets.len();
+    let mut table = [0u64; N];
+    let lines = &mut table[..n * LINE_WIDTH];
     take_lines(book, list, n as u64, false, lines);
     fill_spans(schedule, lines, n, listed);
     fill_budgets(schedule, lines, costs, budgets);
@@ -111,29 +120,10 @@ pub fn list_spans(
     ensures listed { listed.new ≡ listed_of (content book.now) }
     ensures budgets { budgets.new ≡ budgets_of (content book.now) }
 {
-    let n = budgets.len();
     let list = lines_of(opened.ledger.baseline);
-    if n <= FEW {
-        let mut lines = [0u64; 160];
-        list_by(
-            book,
-            list,
-            schedule,
-            costs,
-            &mut lines[..n * LINE_WIDTH],
-            listed,
-            budgets,
-        );
-        return;
+    if budgets.len() <= FEW {
+        list_by::<160>(book, list, schedule, costs, listed, budgets);
+    } else {
+        list_by::<2500>(book, list, schedule, costs, listed, budgets);
     }
-    let mut lines = [0u64; 2500];
-    list_by(
-        book,
-        list,
-        schedule,
-        costs,
-        &mut lines[..n * LINE_WIDTH],
-        listed,
-        budgets,
-    );
 }

@@ -1,5 +1,4 @@
 -- `take_lines` meets its contract: one line a turn.
-use Prim.Native.Nat.{◌-◌}
 use native.Mathlib.Omega.{arith}
 use mathlib.Core.Path.{◌≡◌, ap, sym, ◌∙◌}
 use mathlib.Core.List.{List, foldl}
@@ -11,9 +10,9 @@ use Rattle.format.specs.Book.{BaselineLine}
 use Rattle.format.specs.Verdict.{content}
 use Rattle.records.specs.Decoded.{baseline_line_of}
 use Rattle.sections.specs.Sections.{elements}
-use Rattle.calendar.proofs.Parts.{Reading, read_length, reading_none, reading_is, reading_more}
+use Rattle.calendar.proofs.Parts.{read_length, reading_none, reading_is, reading_more}
 use Rattle.baseline.specs.Lines.{taken}
-use Rattle.baseline.proofs.Taking.{Taking, taking_none, taking_more, taking_end, taken_all, read_range}
+use Rattle.baseline.proofs.Taking.{taking_none, taking_more, taking_end, taken_all, read_range}
 use Rattle.baseline.proofs.lines.take_lines.Goals as goal
 use Rattle.baseline.proofs.lines.take_lines.Goals.{After-read_baseline_line-line}
 
