@@ -6,7 +6,7 @@ ghost use Rattle.calendar.specs.Tables.{one, marked};
 pub fn bit(works: bool) -> u8
     ensures { result ≡ one works }
 {
-    if works { 1 } else { 0 }
+    u8::from(works)
 }
 
 // Sets a date, if the table has it.

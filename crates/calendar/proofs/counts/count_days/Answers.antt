@@ -11,15 +11,6 @@ use Rattle.calendar.proofs.counts.count_days.Goals as goal
 pub loop-date-init : goal.loop-date-init
 loop-date-init c = (refl, omega arith, sym (kept_none _ _), λ e h k. absurd (omega arith))
 
-pub offset_bounds-counts-date : goal.offset_bounds-counts-date
-offset_bounds-counts-date c = omega arith
-
-pub bounds-counts-date : goal.bounds-counts-date
-bounds-counts-date c = omega arith
-
-pub worked-n-requires : goal.worked-n-requires
-worked-n-requires c = omega arith
-
 pub overflow_add-n : goal.overflow_add-n
 overflow_add-n c =
     let s = c.args in

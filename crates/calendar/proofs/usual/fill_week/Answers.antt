@@ -13,12 +13,6 @@ use Rattle.calendar.proofs.usual.fill_week.Goals as goal
 pub loop-date-init : goal.loop-date-init
 loop-date-init c = (refl, λ e h k. absurd (omega arith))
 
-pub works_on_week-requires : goal.works_on_week-requires
-works_on_week-requires c = omega arith
-
-pub bounds-days-date : goal.bounds-days-date
-bounds-days-date c = omega arith
-
 pub loop-date-preserved : goal.loop-date-preserved
 loop-date-preserved c =
     let l = c.loop-date in
