@@ -16,12 +16,7 @@ fn worked(days: &[u8], base: u64, date: u64) -> u64
     ensures { result ≡ one (works base days.now date) }
 {
     let i = (date - base) as usize;
-    if i < days.len() {
-        if days[i] == 1 {
-            return 1;
-        }
-    }
-    0
+    u64::from(i < days.len() && days[i] == 1)
 }
 
 // At each date from `from`, the base of both tables, to the one after `to`: how many dates before it work.
