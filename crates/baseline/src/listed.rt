@@ -22,26 +22,21 @@ use tree::table::COST_WIDTH;
 pub const LISTED_WIDTH: usize = 3;
 
 // What a line says, by its mark, else what the schedule says.
-fn lined_or(mark: u64, lined: u64, early: u64) -> u64
+fn lined_or<T: Copy>(mark: u64, lined: T, early: T) -> T
     ensures { result ≡ cond (eqb mark 0) early lined }
 {
-    if mark == 0 {
-        return early;
-    }
-    lined
+    if mark == 0 { early } else { lined }
 }
 
 // Of a leaf: the cost that the baseline froze, else the planned cost.
 fn frozen_or(parent: u64, mark: u64, frozen: u64, cost: i64) -> i64
     ensures { result ≡ if_leaf parent (cond (eqb mark 0) cost (of_bits frozen)) }
 {
-    if parent != 0 {
-        return 0;
+    if parent == 0 {
+        lined_or(mark, from_bits(frozen), cost)
+    } else {
+        0
     }
-    if mark == 0 {
-        return cost;
-    }
-    from_bits(frozen)
 }
 
 // The listed spans, from the schedule and the table of the first lines.

@@ -15,9 +15,6 @@ use Rattle.activities.proofs.stretches.stretch_all.Goals as goal
 pub loop-i-init : goal.loop-i-init
 loop-i-init c = λ book r e way. covering_none _ _
 
-pub widen_ways-known-requires : goal.widen_ways-known-requires
-widen_ways-known-requires c = omega arith
-
 pub loop-i-preserved : goal.loop-i-preserved
 loop-i-preserved c = λ book r e. covering_ways c.args.schedule.now (spans_dated book e r) (c.loop-i.invariant book r e) c.widen_ways-known.ensures
 

@@ -16,9 +16,6 @@ use Rattle.baseline.proofs.Entries.{Entered, entered_none, entered_more, entered
 use Rattle.baseline.proofs.Listing.{budget_in, budgets_listed}
 use Rattle.baseline.proofs.listed.fill_budgets.Goals as goal
 
-pub parent_marks-parents-requires : goal.parent_marks-parents-requires
-parent_marks-parents-requires c = omega arith
-
 pub loop-i-init : goal.loop-i-init
 loop-i-init c = entered_none _ _ _
 
