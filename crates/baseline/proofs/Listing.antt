@@ -1,6 +1,5 @@
 -- The lines, the listed spans and the budgets of a book, as the tables hold them.
 use Prim.Native.Nat.{ℕ, zero, suc, ◌+◌, ◌*◌, ◌≤◌, ◌<◌}
-use native.Mathlib.Numerals.{add-one, add-two}
 use native.Mathlib.Omega.{arith}
 use native.Mathlib.Decide.{dec_lt}
 use mathlib.Core.Path.{◌≡◌, refl, ap, ap₂, sym, ◌∙◌, subst, fun_ext}
@@ -10,7 +9,7 @@ use mathlib.Core.Option
 use mathlib.Core.Option.{Option, none, some, or_else}
 use lib.Dec.{eqb}
 use lib.IntN.{ℤ, pos}
-use lib.ListN.{length, get_or, set, get_or-eq_default}
+use lib.ListN.{length, get_or, get_or-eq_default}
 use lib.Seq.{sets}
 use Rattle.format.specs.Inverse.{Given}
 use Rattle.format.specs.InRange.{IsDate, Every, BaselineLineInRange, BaselineInRange, InRange}

@@ -1,10 +1,10 @@
 -- `fill_budgets` meets its contract: one figure a turn.
-use Prim.Native.Nat.{◌+◌, ◌*◌, ◌-◌}
+use Prim.Native.Nat.{◌+◌, ◌*◌}
 use native.Mathlib.Omega.{arith}
 use mathlib.Core.Path.{refl, ap, ◌∙◌}
 use mathlib.Core.Bool.{cond}
 use lib.Dec.{eqb}
-use lib.IntN.{ℤ, pos}
+use lib.IntN.{ℤ}
 use lib.ListN.{length, get_or}
 use mir.Syntax.{w64}
 use borrow.Author.Rules.{rules}
@@ -12,8 +12,8 @@ use Rattle.integer.specs.Linear.{back}
 use Rattle.money.specs.Words.{of_bits}
 use Rattle.activities.proofs.Scheduling.{schedule_length}
 use Rattle.baseline.specs.Listed.{if_leaf}
-use Rattle.baseline.proofs.Entries.{Entered, entered_none, entered_more, entered_end}
-use Rattle.baseline.proofs.Listing.{budget_in, budgets_listed}
+use Rattle.baseline.proofs.Entries.{entered_none, entered_more, entered_end}
+use Rattle.baseline.proofs.Listing.{budgets_listed}
 use Rattle.baseline.proofs.listed.fill_budgets.Goals as goal
 
 pub loop-i-init : goal.loop-i-init

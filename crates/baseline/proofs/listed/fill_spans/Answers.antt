@@ -1,13 +1,11 @@
 -- `fill_spans` meets its contract: one row a turn.
-use Prim.Native.Nat.{◌+◌, ◌*◌, ◌-◌}
+use Prim.Native.Nat.{◌+◌, ◌*◌}
 use native.Mathlib.Omega.{arith}
 use mathlib.Core.Path.{◌≡◌, refl, ap, sym, ◌∙◌}
 use lib.ListN.{length, get_or, length-set}
-use Rattle.lists.specs.Lists.{span}
-use Rattle.flat.proofs.Written.{Written}
 use Rattle.flat.proofs.Spans.{rows_none, rows_more, rows_end}
 use Rattle.activities.proofs.Scheduling.{schedule_length}
-use Rattle.baseline.proofs.Listing.{span_in, three_set, spans_listed}
+use Rattle.baseline.proofs.Listing.{three_set, spans_listed}
 use Rattle.baseline.proofs.listed.fill_spans.Goals as goal
 
 pub loop-i-init : goal.loop-i-init

@@ -1,13 +1,10 @@
 -- `fill_spans` meets its contract: one row a turn.
-use Prim.Native.Nat.{◌+◌, ◌*◌, ◌-◌}
-use native.Mathlib.Omega.{arith}
-use mathlib.Core.Path.{◌≡◌, refl, sym, ◌∙◌}
-use lib.ListN.{length, get_or, length-set}
+use Prim.Native.Nat.{◌*◌}
+use mathlib.Core.Path.{◌≡◌}
+use lib.ListN.{length}
 use Rattle.lists.specs.Lists.{span}
 use Rattle.flat.proofs.Written.{Written}
-use Rattle.flat.proofs.Spans.{rows_none, rows_more, rows_end}
-use Rattle.activities.proofs.Scheduling.{schedule_length}
-use Rattle.baseline.proofs.Listing.{span_in, three_set, spans_listed}
+use Rattle.baseline.proofs.Listing.{span_in}
 use Rattle.baseline.proofs.listed.fill_spans.Given as goal
 
 abbrev pub invariant-loop-i : goal.invariant-loop-i

@@ -3,7 +3,6 @@ use Prim.Native.Nat.{◌≤◌}
 use native.Mathlib.Omega.{arith}
 use mathlib.Core.Path.{sym, subst}
 use lib.ListN.{length}
-use borrow.Author.Rules.{rules}
 use Rattle.format.specs.Verdict.{content}
 use Rattle.format.specs.InRange.{InRange}
 use Rattle.format.proofs.Theorems.{content_in_range}
