@@ -1,6 +1,4 @@
 -- `put_numbers` meets its contract: one figure a turn.
-use Prim.Native.Nat.{◌-◌}
-use lib.ListN.{length}
 use Rattle.flat.proofs.Mapped.{Mapped}
 use Rattle.money.specs.Words.{bits}
 use Rattle.rows.proofs.put_numbers.Given as goal
