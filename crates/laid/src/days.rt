@@ -34,17 +34,15 @@ pub fn test_dates(days: &[u8], row: usize, base: u64, first: u64, last: u64) -> 
 {
     let mut tested: u16 = 0;
     let mut working: u16 = 0;
-    let mut date = first;
-    while date <= last {
+    for date in first..last + 1 {
         if is_working(days, row, base, date) {
             working += 1;
         }
         tested += 1;
-        date += 1;
     }
     Tested {
-        tested: tested as u64,
-        working: working as u64,
+        tested: u64::from(tested),
+        working: u64::from(working),
     }
 }
 
@@ -56,13 +54,12 @@ pub fn span_of(days: &[u8], base: u64, width: u64, calendar: u64, first: u64, la
 {
     let row = (calendar * width) as usize;
     let found = test_dates(days, row, base, first, last);
-    let working = found.working;
     Span {
         row,
         base,
         first,
         last,
-        working,
+        working: found.working,
     }
 }
 
@@ -71,12 +68,10 @@ pub fn first_listed(days: &[u8], span: Span) -> u64
     requires { IsSpan days.now span }
     ensures { result ≡ get_or (listed_in days.now span) 0 0 }
 {
-    let mut date = span.first;
-    while date <= span.last {
+    for date in span.first..span.last + 1 {
         if is_working(days, span.row, span.base, date) {
             return date;
         }
-        date += 1;
     }
     span.first
 }
@@ -86,12 +81,10 @@ pub fn last_listed(days: &[u8], span: Span) -> u64
     requires { IsSpan days.now span }
     ensures { result ≡ get_or (listed_in days.now span) (length (listed_in days.now span) - 1) 0 }
 {
-    let mut next = span.last + 1;
-    while span.first < next {
-        if is_working(days, span.row, span.base, next - 1) {
-            return next - 1;
+    for date in (span.first..span.last + 1).rev() {
+        if is_working(days, span.row, span.base, date) {
+            return date;
         }
-        next -= 1;
     }
     span.first
 }

@@ -50,16 +50,12 @@ pub fn lay_days(
     ensures laid { Laid span.base (dealt (λ d. of_deal deal) k (worked_in days.now span first last)) table.old table.new }
 {
     let mut next = k;
-    let mut date = first;
-    while date <= last {
+    for date in first..last + 1 {
         if is_working(days, span.row, span.base, date) {
             let amount = amount_of(deal, next);
             lay(date, amount, span.base, table);
             next += 1;
-            date += 1;
-            continue;
         }
-        date += 1;
     }
     next
 }

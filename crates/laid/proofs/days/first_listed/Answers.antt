@@ -1,12 +1,12 @@
 -- `first_listed` meets its contract: none of the dates passed works.
-use mathlib.Core.Path.{◌≡◌, refl, sym, ap, ◌∙◌}
+use mathlib.Core.Path.{refl, sym, ap, ◌∙◌}
 use mathlib.Core.Bool.{false}
 use mathlib.Core.List.{List}
-use Prim.Native.Nat.{ℕ, ◌+◌, ◌-◌, ◌≤◌}
+use Prim.Native.Nat.{ℕ}
 use native.Mathlib.Omega.{arith}
 use lib.ListN.{get_or}
 use Rattle.model.specs.Days.{or_alone}
-use Rattle.laid.specs.Listed.{in_row, worked_in}
+use Rattle.laid.specs.Listed.{in_row}
 use Rattle.laid.proofs.Dates.{none_left, one_first, first_kept}
 use Rattle.laid.proofs.days.first_listed.Goals as goal
 
@@ -21,22 +21,16 @@ returns-then-is_working c =
     let s = c.args.span in
     let l = c.loop-date in
     sym (ap (λ (ds : List ℕ). get_or (or_alone s.first ds) 0 0) l.invariant.1
-    ∙ first_kept (in_row s.row s.base c.args.days.now) s.first l.date s.last c.loop-date-test.true (sym c.is_working.ensures ∙ c.if-is_working.true))
-
-pub overflow_add-date : goal.overflow_add-date
-overflow_add-date c = omega (arith, c.requires.covers.latest)
-
-pub loop-date-smaller : goal.loop-date-smaller
-loop-date-smaller c = omega arith
+    ∙ first_kept (in_row s.row s.base c.args.days.now) s.first l.date s.last (omega arith) (sym c.is_working.ensures ∙ c.if-is_working.true))
 
 pub loop-date-preserved : goal.loop-date-preserved
 loop-date-preserved c =
     let s = c.args.span in
     let l = c.loop-date in
-    (omega (arith, l.invariant.0), l.invariant.1 ∙ one_first (in_row s.row s.base c.args.days.now) l.date s.last false c.loop-date-test.true (sym c.is_working.ensures ∙ c.if-is_working.false))
+    (omega (arith, l.invariant.0), l.invariant.1 ∙ one_first (in_row s.row s.base c.args.days.now) l.date s.last false (omega arith) (sym c.is_working.ensures ∙ c.if-is_working.false))
 
 pub returns : goal.returns
 returns c =
     let s = c.args.span in
     let l = c.loop-date in
-    sym (ap (λ (ds : List ℕ). get_or (or_alone s.first ds) 0 0) (l.invariant.1 ∙ none_left (in_row s.row s.base c.args.days.now) l.date s.last c.loop-date-test.false))
+    sym (ap (λ (ds : List ℕ). get_or (or_alone s.first ds) 0 0) (l.invariant.1 ∙ none_left (in_row s.row s.base c.args.days.now) l.date s.last (omega arith)))

@@ -5,7 +5,6 @@ use native.Mathlib.Nat.{mul-le-mul_right}
 use native.Mathlib.Omega.{arith}
 use Rattle.laid.specs.declared.days.Span.{Span}
 use Rattle.laid.specs.declared.days.Tested.{Tested}
-use borrow.Author.Rules.{rules}
 use Rattle.laid.proofs.days.span_of.Goals as goal
 
 pub overflow_mul-row : goal.overflow_mul-row

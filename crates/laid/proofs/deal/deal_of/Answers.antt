@@ -1,5 +1,4 @@
 -- `deal_of` meets its contract, field by field.
-use borrow.Author.Rules.{rules}
 use mathlib.Core.Path.{◌≡◌, ap, ap₂, ◌∙◌}
 use Prim.Native.Nat.{ℕ, ◌%◌}
 use lib.IntN.{ℤ, nat_abs}

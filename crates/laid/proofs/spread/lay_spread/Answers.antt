@@ -9,7 +9,6 @@ use Rattle.laid.specs.Dealt.{dealt, of_deal, deal_of}
 use Rattle.laid.specs.Listed.{worked_in}
 use Rattle.laid.proofs.Laying.{laid_same}
 use Rattle.laid.proofs.Dealing.{spread_alone, spread_some}
-use borrow.Author.Rules.{rules}
 use Rattle.laid.proofs.spread.lay_spread.Goals as goal
 
 pub returns-then-span-eq0 : goal.returns-then-span-eq0

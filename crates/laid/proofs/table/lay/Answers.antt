@@ -13,7 +13,6 @@ use Rattle.laid.specs.Laid.{Laid}
 use native.Mathlib.Omega.{arith}
 use lib.ListN.{set, length-set}
 use Rattle.laid.proofs.Laying.{laid_past, laid_here}
-use borrow.Author.Rules.{rules}
 use Rattle.laid.proofs.table.lay.Goals as goal
 
 pub returns-then-date-base : goal.returns-then-date-base
