@@ -13,7 +13,6 @@ use answers::{Reply, TOO_SHORT};
 use money::sums::saturating_add;
 use money::words::{from_bits, to_bits};
 use months::{first_day, first_days, last_day, month_at};
-use spans::stretches::earlier;
 
 // How many points there are between two dates, and what they come to.
 #[derive(Clone, Copy)]
@@ -30,16 +29,12 @@ pub fn sum_between(base: u64, first: u64, last: u64, table: &[u64]) -> Sum
 {
     let mut points: u64 = 0;
     let mut total: i64 = 0;
-    let mut date = first;
-    while date <= last {
+    for date in first..last + 1 {
         if is_marked(table, base, date) {
             let sum = from_bits(table[(date - base) as usize * 2 + 1]);
             total = saturating_add(total, sum);
             points += 1;
-            date += 1;
-            continue;
         }
-        date += 1;
     }
     Sum { points, total }
 }
@@ -68,7 +63,7 @@ fn put_months(
     let mut first = first_day(days, month);
     while date <= to {
         let end = last_day(days, month);
-        let last = earlier(to, end);
+        let last = to.min(end);
         let sum = sum_between(base, date, last, table);
         j = put_point(0 < sum.points, first, to_bits(sum.total), j, out);
         date = last + 1;

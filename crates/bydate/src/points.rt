@@ -45,12 +45,10 @@ fn put_points(base: u64, from: u64, to: u64, table: &[u64], out: &mut [u64]) -> 
     ensures out_after { out.new ≡ sets out.old 0 (point_rows (points_in base table.now from to)) }
 {
     let mut j: usize = 0;
-    let mut date = from;
-    while date <= to {
+    for date in from..to + 1 {
         let marked = is_marked(table, base, date);
         let sum = table[(date - base) as usize * 2 + 1];
         j = put_point(marked, date, sum, j, out);
-        date += 1;
     }
     j
 }

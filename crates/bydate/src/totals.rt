@@ -18,16 +18,12 @@ fn run_up(base: u64, first: u64, to: u64, table: &mut [u64])
     ensures { points_in base table.new first to ≡ running (pos 0) (points_in base table.old first to) }
 {
     let mut total: i64 = 0;
-    let mut date = first;
-    while date <= to {
+    for date in first..to + 1 {
         if is_marked(table, base, date) {
             let at = (date - base) as usize * 2 + 1;
             total = saturating_add(total, from_bits(table[at]));
             table[at] = to_bits(total);
-            date += 1;
-            continue;
         }
-        date += 1;
     }
 }
 

@@ -1,7 +1,7 @@
 -- `put_months` meets its contract: the loop keeps that with the rows of the months that are left all are written.
 use mathlib.Core.Path.{◌≡◌, sym, ap, ap₂, subst, ◌∙◌}
 use mathlib.Core.List.{[]}
-use Prim.Native.Nat.{ℕ, ◌^◌, ◌+◌, ◌-◌, ◌*◌, ◌≤◌, ◌<◌, min}
+use Prim.Native.Nat.{ℕ, ◌^◌, ◌+◌, ◌<◌, min}
 use native.Mathlib.Omega.{arith}
 use lib.Dec.{ltb}
 use lib.ListN.{length}
@@ -17,11 +17,11 @@ use Rattle.months.proofs.Guess.{months_in}
 use Rattle.model.specs.Amounts.{on, saturated_sum}
 use Rattle.model.specs.Months.{month_start}
 use Rattle.bydate.specs.Pointed.{points_in, row_if}
-use Rattle.bydate.proofs.Writing.{row_most, row_if_lem, Putting, putting_none, putting_more, putting_count, putting_end}
+use Rattle.bydate.proofs.Writing.{row_most, row_if_lem, putting_none, putting_more, putting_count, putting_end}
 use Rattle.bydate.proofs.MonthDays.{month_end, start_is, in_month_lem, Here, here_end, here_next}
 use Rattle.bydate.proofs.Monthly.{months_from, month_next, months_end}
 use Rattle.bydate.proofs.bymonth.put_months.Goals as goal
-use Rattle.bydate.proofs.bymonth.put_months.Goals.{After-earlier-last, In-loop-date}
+use Rattle.bydate.proofs.bymonth.put_months.Goals.{After-min-last, In-loop-date}
 
 pub returns-then-to-from : goal.returns-then-to-from
 returns-then-to-from c =
@@ -55,16 +55,16 @@ pub last_day-end-requires : goal.last_day-end-requires
 last_day-end-requires c = (c.requires.days_value, below (goal.at.last_day-end-requires c).In-loop-date)
 
 -- the month's last date, and the last one of it or of all
-end_is : (c : After-earlier-last) → c.last_day-end.result ≡ month_end c.loop-date.date
+end_is : (c : After-min-last) → c.last_day-end.result ≡ month_end c.loop-date.date
 end_is c = here_end _ (c.loop-date.invariant.2 c.loop-date-test.true) c.last_day-end.ensures
 
-last_is : (c : After-earlier-last) → c.earlier-last.result ≡ min c.args.to (month_end c.loop-date.date)
-last_is c = c.earlier-last.ensures ∙ ap (min c.args.to) (end_is c)
+last_is : (c : After-min-last) → c.min-last.result ≡ min c.args.to (month_end c.loop-date.date)
+last_is c = c.min-last.ensures ∙ ap (min c.args.to) (end_is c)
 
 pub sum_between-sum-requires : goal.sum_between-sum-requires
 sum_between-sum-requires c =
     let s = c.requires.reaches in
-    let is = last_is (goal.at.sum_between-sum-requires c).After-earlier-last in
+    let is = last_is (goal.at.sum_between-sum-requires c).After-min-last in
     record { start = omega (arith, s.start, c.loop-date.invariant.0); reach = omega (arith, s.reach, is); latest = omega (arith, s.latest, is) }
 
 pub put_point-j-requires : goal.put_point-j-requires
@@ -72,7 +72,7 @@ put_point-j-requires c =
     omega (arith, c.requires.reaches.latest, c.loop-date.invariant.1, c.loop-date-test.true)
 
 pub overflow_add-date : goal.overflow_add-date
-overflow_add-date c = omega (arith, last_is (goal.at.overflow_add-date c).After-earlier-last, c.requires.reaches.latest)
+overflow_add-date c = omega (arith, last_is (goal.at.overflow_add-date c).After-min-last, c.requires.reaches.latest)
 
 pub overflow_add-first : goal.overflow_add-first
 overflow_add-first c =
@@ -83,16 +83,16 @@ pub overflow_add-month : goal.overflow_add-month
 overflow_add-month c = omega (arith, below (goal.at.overflow_add-month c).In-loop-date)
 
 pub loop-date-smaller : goal.loop-date-smaller
-loop-date-smaller c = omega (arith, last_is (goal.at.loop-date-smaller c).After-earlier-last, in_month_lem c.loop-date.date, c.loop-date-test.true)
+loop-date-smaller c = omega (arith, last_is (goal.at.loop-date-smaller c).After-min-last, in_month_lem c.loop-date.date, c.loop-date-test.true)
 
 pub loop-date-preserved : goal.loop-date-preserved
 loop-date-preserved c =
-    let e = (goal.at.loop-date-preserved c).After-earlier-last in
+    let e = (goal.at.loop-date-preserved c).After-min-last in
     let s = c.args in
     let l = c.loop-date in
     let w = l.invariant.2 c.loop-date-test.true in
     let end = c.last_day-end in
-    let last = c.earlier-last.result in
+    let last = c.min-last.result in
     let sum = c.sum_between-sum in
     let r = c.put_point-j in
     let points = points_in s.base s.table.now l.date last in

@@ -3,7 +3,6 @@ use native.Mathlib.Omega.{arith}
 use Rattle.bydate.specs.Pointed.{points_in}
 use Rattle.bydate.specs.Months.{by_month}
 use Rattle.bydate.proofs.Writing.{points_short, points_put}
-use borrow.Author.Rules.{rules}
 use Rattle.bydate.proofs.bymonth.write_months.Goals as goal
 
 pub returns-then-out-n : goal.returns-then-out-n

@@ -1,7 +1,6 @@
 -- `put` meets its contract: past the end nothing is set.
 use mathlib.Core.Path.{sym}
 use lib.Seq.{set_out}
-use borrow.Author.Rules.{rules}
 use Rattle.bydate.proofs.points.put.Goals as goal
 
 pub returns-else-i-numbers : goal.returns-else-i-numbers

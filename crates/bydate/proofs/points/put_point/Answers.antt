@@ -8,7 +8,6 @@ use lib.ListN.{length, set}
 use lib.Seq.{sets}
 use Rattle.bydate.specs.Pointed.{row_if}
 use Rattle.bydate.proofs.Writing.{row_written}
-use borrow.Author.Rules.{rules}
 use Rattle.bydate.proofs.points.put_point.Goals as goal
 
 pub returns-then-marked : goal.returns-then-marked

@@ -1,12 +1,11 @@
 -- `put_points` meets its contract: the loop keeps that with the rows of the dates that are left all are written.
 use mathlib.Core.List.{[]}
-use Prim.Native.Nat.{◌+◌, ◌*◌, ◌-◌, ◌≤◌}
+use Prim.Native.Nat.{◌+◌, ◌*◌, ◌-◌}
 use native.Mathlib.Omega.{arith}
 use Rattle.lists.specs.Lists.{cons_if}
 use Rattle.laid.specs.Laid.{sum_of}
-use Rattle.bydate.specs.Pointed.{sum_on, points_in}
-use Rattle.bydate.proofs.Writing.{row_most, row_held, Putting, putting_none, putting_more, putting_count, putting_end, points_next, points_end}
-use borrow.Author.Rules.{rules}
+use Rattle.bydate.specs.Pointed.{sum_on}
+use Rattle.bydate.proofs.Writing.{row_most, row_held, putting_none, putting_more, putting_count, putting_end, points_next, points_end}
 use Rattle.bydate.proofs.points.put_points.Goals as goal
 
 pub loop-date-init : goal.loop-date-init
@@ -30,12 +29,6 @@ bounds-table-date c = omega (arith, c.requires.start, c.requires.reach, c.loop-d
 pub put_point-j-requires : goal.put_point-j-requires
 put_point-j-requires c = omega (arith, c.requires.latest, c.loop-date.invariant.1)
 
-pub overflow_add-date : goal.overflow_add-date
-overflow_add-date c = omega (arith, c.requires.latest)
-
-pub loop-date-smaller : goal.loop-date-smaller
-loop-date-smaller c = omega arith
-
 pub loop-date-preserved : goal.loop-date-preserved
 loop-date-preserved c =
     let s = c.args in
@@ -45,7 +38,7 @@ loop-date-preserved c =
       omega (arith, l.invariant.0),
       omega (arith, l.invariant.0, l.invariant.1, r.ensures.value, row_most marked.result l.date (sum_of s.base s.table.now l.date)),
       putting_more l.invariant.2 (cons_if marked.result (sum_on s.base s.table.now l.date) [])
-          (points_next s.base s.to s.table.now l.date marked.result c.loop-date-test.true marked.ensures)
+          (points_next s.base s.to s.table.now l.date marked.result (omega arith) marked.ensures)
           (row_held marked.result l.date (sum_of s.base s.table.now l.date) (c.type_inv.table ((l.date - s.base) * 2 + 1)).fits)
           r.ensures.value r.ensures.out_after,
     )
@@ -57,7 +50,7 @@ pub returns : goal.returns
 returns c =
     let s = c.args in
     let l = c.loop-date in
-    let none = points_end s.base s.to s.table.now l.date c.loop-date-test.false in
+    let none = points_end s.base s.to s.table.now l.date (omega arith) in
     record {
       value = putting_count l.invariant.2 none;
       out_after = putting_end l.invariant.2 none;

@@ -5,7 +5,6 @@ use Rattle.lists.specs.Lists.{keep}
 use Rattle.model.specs.Amounts.{is_between}
 use Rattle.bydate.proofs.Writing.{puts_same}
 use Rattle.bydate.proofs.Running.{points_from}
-use borrow.Author.Rules.{rules}
 use Rattle.bydate.proofs.totals.write_totals.Goals as goal
 
 pub run_up-requires : goal.run_up-requires
