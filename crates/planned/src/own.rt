@@ -43,13 +43,11 @@ pub fn leaves_planned(
     ensures { result ≡ unmarked_sum marks.now (map (planned_at base width days.now date listed.now budgets.now) (span 0 (length budgets.now))) }
 {
     let mut sum: i64 = 0;
-    let mut i = 0;
-    while i < budgets.len() {
+    for i in 0..budgets.len() {
         if marks[i] == 0 {
             let value = planned_at(date, base, width, days, listed, budgets, i);
             sum = saturating_add(sum, value);
         }
-        i += 1;
     }
     sum
 }

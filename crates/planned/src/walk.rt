@@ -7,7 +7,6 @@ ghost use Rattle.planned.specs.Walked.{walked_in, both_of, or_first, Few};
 use laid::days::{Tested, test_dates};
 use model::DayWalk;
 use money::shares::cumulative;
-use spans::stretches::earlier;
 
 // One walk of what was found up to `date` and what was found behind it. Where no date works the first is listed alone, though the span may have no date.
 fn joined(date: u64, first: u64, early: Tested, late: Tested) -> DayWalk
@@ -43,7 +42,7 @@ pub fn walk_days(days: &[u8], row: usize, base: u64, date: u64, first: u64, last
     requires { Covers row base days.now first last }
     ensures { result ≡ walked_in row base days.now date first last }
 {
-    let until = earlier(last, date);
+    let until = last.min(date);
     let early = test_dates(days, row, base, first, until);
     let late = test_dates(days, row, base, first + early.tested, last);
     joined(date, first, early, late)

@@ -1,19 +1,17 @@
 -- `leaves_planned` meets its contract. The loop's invariant: the sum so far, with what is left, is the whole.
-use Prim.Native.Nat.{ℕ, ◌+◌, ◌≤◌, ◌-◌}
-use mathlib.Core.Path.{◌≡◌, sym, ap, ◌∙◌}
-use mathlib.Core.List.{List, map}
-use mathlib.Core.Logic.{⊎_elim}
+use Prim.Native.Nat.{◌+◌}
+use mathlib.Core.Path.{sym, ap, ◌∙◌}
+use mathlib.Core.List.{map}
 use native.Mathlib.Omega.{arith}
 use lib.IntN.{ℤ, pos}
 use lib.ListN.{length, get_or}
 use mir.Syntax.{w64}
 use mir.Val.{to_z}
-use borrow.Author.Rules.{rules}
 use borrow.Author.Tests.{eq-eqb, ne_eqb}
 use Rattle.integer.specs.Linear.{back}
 use Rattle.lists.specs.Lists.{span}
 use Rattle.lists.proofs.Spans.{made_length, made_at}
-use Rattle.tree.specs.Figures.{saturating_add, unmarked_sum}
+use Rattle.tree.specs.Figures.{saturating_add}
 use Rattle.tree.proofs.Leaves.{sum_from, sum_first, sum_taken, sum_passed, sum_last}
 use Rattle.planned.specs.Values.{planned_at}
 use Rattle.planned.proofs.own.leaves_planned.Goals as goal
