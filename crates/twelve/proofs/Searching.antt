@@ -12,7 +12,7 @@ module _ (P : ℕ → Type 0) (n : ℕ) (here : P n) where
       go (yes e) = subst P (sym e) here
       go (no e) = rest d h (omega arith)
 
-  pub passed_down : (b : ℕ) → ((d : ℕ) → n < d → d ≤ b → P d) → (d : ℕ) → n - 1 < d → d ≤ b → P d
+  pub passed_down : (b : ℕ) → ((d : ℕ) → n < d → d ≤ b → P d) → (d : ℕ) → n ≤ d → d ≤ b → P d
   passed_down b rest d h l = go (ℕ_discrete d n)
     where
       go : Dec (d ≡ n) → P d

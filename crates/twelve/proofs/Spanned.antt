@@ -82,9 +82,9 @@ pub nothing_listed : AreListed [] (listed_from 0 0)
 unfolding span
 nothing_listed = record { most = omega arith; spanned = no_months; starts = λ m h. no_sum m }
 
-pub none_listed : {table : List ℕ} {reach : Reach} {first : ℕ} → IsFirst table reach first → reach.to < first → AreListed (monthly_in table reach) (listed_from 0 0)
+pub none_listed : (table : List ℕ) (reach : Reach) → ((d : ℕ) → reach.from ≤ d → d ≤ reach.to → is_marked reach.base table d ≡ false) → AreListed (monthly_in table reach) (listed_from 0 0)
 unfolding monthly points_in dates_between
-none_listed {table} {reach} {first} f h =
+none_listed table reach none_marked =
     let marked : ℕ → Bool = λ d. is_marked reach.base table d in
-    let none : monthly_in table reach ≡ [] = ap (λ (ds : List ℕ). monthly (map (sum_on reach.base table) ds)) (keep_none marked (dates_between reach.from reach.to) (λ d m. let w = span_in_lem reach.from (reach.to + 1 - reach.from) d m in f.none d w.0 (omega (arith, w.1)))) in
+    let none : monthly_in table reach ≡ [] = ap (λ (ds : List ℕ). monthly (map (sum_on reach.base table) ds)) (keep_none marked (dates_between reach.from reach.to) (λ d m. let w = span_in_lem reach.from (reach.to + 1 - reach.from) d m in none_marked d w.0 (omega (arith, w.0, w.1)))) in
     rw none nothing_listed

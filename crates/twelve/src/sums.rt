@@ -11,7 +11,6 @@ use crate::Reach;
 use bydate::points::is_marked;
 use money::exact::{Exact, add, widened};
 use months::{first_day, last_day};
-use spans::stretches::{earlier, later};
 
 // The points between two dates, added up exactly.
 fn sum_between(base: u64, first: u64, last: u64, table: &[u64]) -> Exact
@@ -20,15 +19,11 @@ fn sum_between(base: u64, first: u64, last: u64, table: &[u64]) -> Exact
     ensures small { IsWithin 1 (value_of result) }
 {
     let mut total = Exact { high: 0, low: 0 };
-    let mut date = first;
-    while date <= last {
+    for date in first..last + 1 {
         if is_marked(table, base, date) {
             let sum = widened(table[(date - base) as usize * 2 + 1]);
             total = add(total, sum);
-            date += 1;
-            continue;
         }
-        date += 1;
     }
     total
 }
@@ -40,7 +35,7 @@ pub fn sum_month(days: &[u16; 1200], reach: Reach, table: &[u64], i: usize) -> E
     ensures sum { value_of result ≡ month_sum (monthly_in table.now reach) (january2000 + i) }
     ensures small { IsWithin 1 (value_of result) }
 {
-    let first = later(reach.from, first_day(days, i));
-    let last = earlier(reach.to, last_day(days, i));
+    let first = reach.from.max(first_day(days, i));
+    let last = reach.to.min(last_day(days, i));
     sum_between(reach.base, first, last, table)
 }

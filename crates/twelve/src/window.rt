@@ -48,14 +48,12 @@ pub fn twelve_sums(
     ensures filled { result ≡ true → sums.new ≡ map (twelve_sum (monthly_in table.now reach)) (months (monthly_in table.now reach)) }
 {
     let mut window = Exact { high: 0, low: 0 };
-    let mut k: usize = 0;
-    while k < sums.len() {
+    for k in 0..sums.len() {
         window = slide(days, reach, table, first, first + k, window);
         if !is_word(window) {
             return false;
         }
         sums[k] = narrowed(window);
-        k += 1;
     }
     true
 }

@@ -25,14 +25,10 @@ fn largest_at(sums: &[i64]) -> usize
     ensures { IsLargestAt sums.now (length sums.now) result }
 {
     let mut largest: usize = 0;
-    let mut k: usize = 1;
-    while k < sums.len() {
+    for k in 1..sums.len() {
         if sums[largest] < sums[k] {
             largest = k;
-            k += 1;
-            continue;
         }
-        k += 1;
     }
     largest
 }
@@ -53,12 +49,9 @@ fn put_months(days: &[u16; 1200], first: usize, largest: usize, sums: &[i64], ou
     requires sums_bound { (first + length sums.now ≤ 1200) × (length out.old ≡ length sums.now * twelve_width) }
     ensures { out.new ≡ flat_map (summed_row first largest sums.now) (span 0 (length sums.now)) }
 {
-    let mut k: usize = 0;
-    while k < sums.len() {
+    for (k, &sum) in sums.iter().enumerate() {
         let day = first_day(days, first + k);
-        let sum = sums[k];
         put_month(day, sum, (k == largest) as u64, k * TWELVE_WIDTH, out);
-        k += 1;
     }
 }
 
@@ -97,7 +90,31 @@ fn write_sums(
     put_fitting(days, first, sums, out)
 }
 
-// The same, with an array for the sums: a small one is enough for five years.
+// The same, with an array of N for the sums.
+fn write_in<const N: usize>(
+    days: &[u16; 1200],
+    reach: Reach,
+    table: &[u64],
+    listed: Listed,
+    out: &mut [u64],
+) -> Reply
+    requires days_value { days.now ≡ first_days }
+    requires has_reach { HasReach table.now reach × AreListed (monthly_in table.now reach) listed }
+    requires count_bound { (0 < listed.count) × (listed.count ≤ N) × (N ≤ 1200) }
+    ensures { PutsIf (are_words (monthly_in table.now reach)) 11 (map twelve_row (twelve_months_of (monthly_in table.now reach))) out.old result out.new }
+{
+    let mut sums = [0i64; N];
+    write_sums(
+        days,
+        reach,
+        table,
+        listed.first,
+        &mut sums[..listed.count],
+        out,
+    )
+}
+
+// The same: a small array is enough for five years.
 fn write_listed(
     days: &[u16; 1200],
     reach: Reach,
@@ -110,14 +127,10 @@ fn write_listed(
     requires count_nonzero { 0 < listed.count }
     ensures { PutsIf (are_words (monthly_in table.now reach)) 11 (map twelve_row (twelve_months_of (monthly_in table.now reach))) out.old result out.new }
 {
-    let first = listed.first;
-    let count = listed.count;
-    if count <= 60 {
-        let mut sums = [0i64; 60];
-        return write_sums(days, reach, table, first, &mut sums[..count], out);
+    if listed.count <= 60 {
+        return write_in::<60>(days, reach, table, listed, out);
     }
-    let mut sums = [0i64; 1200];
-    write_sums(days, reach, table, first, &mut sums[..count], out)
+    write_in::<1200>(days, reach, table, listed, out)
 }
 
 // The twelve-month sums of a table's points between two dates: the rows where they fit.

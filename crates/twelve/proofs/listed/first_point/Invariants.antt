@@ -10,6 +10,3 @@ use Rattle.twelve.proofs.listed.first_point.Given as goal
 abbrev pub invariant-loop-date : goal.invariant-loop-date
 invariant-loop-date l =
     (l.reach.from ≤ l.date) × ((d : ℕ) → l.reach.from ≤ d → d < l.date → is_marked l.reach.base l.table d ≡ false)
-
-abbrev pub decreases-loop-date : goal.decreases-loop-date
-decreases-loop-date l = l.reach.to + 1 - l.date

@@ -1,5 +1,5 @@
 -- `last_point` meets its contract: no date that it has passed has a point, and the first one has.
-use Prim.Native.Nat.{ℕ, ◌-◌, ◌≤◌, ◌<◌}
+use Prim.Native.Nat.{ℕ, ◌+◌, ◌-◌, ◌≤◌, ◌<◌}
 use mathlib.Core.Path.{◌≡◌, sym, ap, ◌∙◌}
 use mathlib.Core.Bool.{false}
 use native.Mathlib.Omega.{arith}
@@ -8,7 +8,7 @@ use Rattle.twelve.proofs.Searching.{passed_down}
 use Rattle.twelve.proofs.listed.last_point.Goals as goal
 
 pub loop-date-init : goal.loop-date-init
-loop-date-init c = (c.requires.point.to, omega arith, λ d h l. absurd (omega arith))
+loop-date-init c = (omega (arith, c.requires.point.to), omega arith, λ d h l. absurd (omega arith))
 
 pub is_marked-requires : goal.is_marked-requires
 is_marked-requires c =
@@ -20,8 +20,8 @@ pub returns-then-is_marked : goal.returns-then-is_marked
 returns-then-is_marked c =
     let w = c.loop-date.invariant in
     record {
-      point = record { from = omega (arith, c.requires.point.from, w.0); to = w.1; here = sym c.is_marked.ensures ∙ c.if-is_marked.true };
-      none = w.2;
+      point = record { from = omega (arith, c.requires.point.from, w.0); to = omega (arith, w.1); here = sym c.is_marked.ensures ∙ c.if-is_marked.true };
+      none = λ d h l. w.2 d (omega (arith, h)) l;
     }
 
 pub loop-date-preserved : goal.loop-date-preserved
@@ -30,20 +30,10 @@ loop-date-preserved c =
     let w = c.loop-date.invariant in (
       omega arith,
       omega (arith, w.1),
-      passed_down (λ d. is_marked a.reach.base a.table.now d ≡ false) c.loop-date.date (sym c.is_marked.ensures ∙ c.if-is_marked.false) a.reach.to w.2,
+      passed_down (λ d. is_marked a.reach.base a.table.now d ≡ false) (c.loop-date.date - 1) (sym c.is_marked.ensures ∙ c.if-is_marked.false) a.reach.to (λ d h l. w.2 d (omega (arith, h)) l),
     )
 
 pub returns : goal.returns
 returns c =
     let w = c.loop-date.invariant in
-    let first : c.loop-date.date ≡ c.args.first = omega (arith, w.0) in
-    record {
-      point = record { from = omega (arith, c.requires.point.from); to = w.1; here = ap (λ (d : ℕ). is_marked c.args.reach.base c.args.table.now d) first ∙ c.requires.point.here };
-      none = w.2;
-    }
-
-pub overflow_sub-date : goal.overflow_sub-date
-overflow_sub-date c = omega arith
-
-pub loop-date-smaller : goal.loop-date-smaller
-loop-date-smaller c = omega arith
+    record { point = c.requires.point; none = λ d h l. w.2 d (omega (arith, h)) l }

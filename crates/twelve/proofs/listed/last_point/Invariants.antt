@@ -1,5 +1,5 @@
 -- `last_point` meets its contract: no date that it has passed has a point, and the first one has.
-use Prim.Native.Nat.{ℕ, ◌-◌, ◌≤◌, ◌<◌}
+use Prim.Native.Nat.{ℕ, ◌+◌, ◌-◌, ◌≤◌, ◌<◌}
 use mathlib.Core.Path.{◌≡◌, sym, ap, ◌∙◌}
 use mathlib.Core.Bool.{false}
 use native.Mathlib.Omega.{arith}
@@ -9,7 +9,4 @@ use Rattle.twelve.proofs.listed.last_point.Given as goal
 
 abbrev pub invariant-loop-date : goal.invariant-loop-date
 invariant-loop-date l =
-    (l.first ≤ l.date) × (l.date ≤ l.reach.to) × ((d : ℕ) → l.date < d → d ≤ l.reach.to → is_marked l.reach.base l.table d ≡ false)
-
-abbrev pub decreases-loop-date : goal.decreases-loop-date
-decreases-loop-date l = l.date - l.first
+    (l.first < l.date) × (l.date ≤ l.reach.to + 1) × ((d : ℕ) → l.date ≤ d → d ≤ l.reach.to → is_marked l.reach.base l.table d ≡ false)

@@ -12,6 +12,3 @@ use Rattle.twelve.proofs.sums.sum_between.Given as goal
 
 abbrev pub invariant-loop-date : goal.invariant-loop-date
 invariant-loop-date l = Adding l.base l.table l.first l.last l.date (value_of l.total)
-
-abbrev pub decreases-loop-date : goal.decreases-loop-date
-decreases-loop-date l = l.last + 1 - l.date

@@ -11,9 +11,9 @@ pub sum_between-requires : goal.sum_between-requires
 sum_between-requires c =
     let r = c.requires.has_reach.0.reaches in
     record {
-      start = omega (arith, r.start, c.later-first.ensures);
-      reach = omega (arith, r.reach, c.earlier-last.ensures);
-      latest = omega (arith, r.latest, c.earlier-last.ensures);
+      start = omega (arith, r.start, c.max-first.ensures);
+      reach = omega (arith, r.reach, c.min-last.ensures);
+      latest = omega (arith, r.latest, c.min-last.ensures);
     }
 
 pub returns : goal.returns
@@ -21,7 +21,7 @@ returns c =
     let a = c.args in
     let sum = c.sum_between.ensures in
     record {
-      sum = sum.sum ∙ month_sum_lem a.table.now a.reach (january2000 + a.i) _ _ (omega (arith, c.later-first.ensures, c.first_day.ensures)) (omega (arith, c.earlier-last.ensures, c.last_day.ensures));
+      sum = sum.sum ∙ month_sum_lem a.table.now a.reach (january2000 + a.i) _ _ (omega (arith, c.max-first.ensures, c.first_day.ensures)) (omega (arith, c.min-last.ensures, c.last_day.ensures));
       small = sum.small;
     }
 

@@ -68,11 +68,5 @@ narrowed-requires c = word (goal.at.narrowed-requires c).Else-not-is_word
 pub bounds-sums-k : goal.bounds-sums-k
 bounds-sums-k c = omega (arith, c.loop-k-test.true)
 
-pub overflow_add-k : goal.overflow_add-k
-overflow_add-k c = omega arith
-
-pub loop-k-smaller : goal.loop-k-smaller
-loop-k-smaller c = omega (arith, inside (goal.at.loop-k-smaller c).In-loop-k)
-
 pub shape_of-sums : goal.shape_of-sums
 shape_of-sums c = c.loop-k.invariant.long

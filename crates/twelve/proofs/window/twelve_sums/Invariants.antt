@@ -15,6 +15,3 @@ use Rattle.twelve.proofs.window.twelve_sums.Given as goal
 
 abbrev pub invariant-loop-k : goal.invariant-loop-k
 invariant-loop-k l = Summing (monthly_in l.table l.reach) l.first (length l.initial.sums) l.k (value_of l.window) l.sums
-
-abbrev pub decreases-loop-k : goal.decreases-loop-k
-decreases-loop-k l = length l.initial.sums - l.k

@@ -12,6 +12,3 @@ use Rattle.twelve.proofs.writing.largest_at.Given as goal
 
 abbrev pub invariant-loop-k : goal.invariant-loop-k
 invariant-loop-k l = (l.k ≤ length l.sums) × IsLargestAt l.sums l.k l.largest
-
-abbrev pub decreases-loop-k : goal.decreases-loop-k
-decreases-loop-k l = length l.sums - l.k

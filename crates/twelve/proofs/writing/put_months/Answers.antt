@@ -45,11 +45,5 @@ overflow_mul-k c = omega (arith, c.requires.sums_bound.0)
 pub put_month-requires : goal.put_month-requires
 put_month-requires c = omega (arith, c.loop-k.invariant.0)
 
-pub overflow_add-k : goal.overflow_add-k
-overflow_add-k c = omega arith
-
-pub loop-k-smaller : goal.loop-k-smaller
-loop-k-smaller c = omega arith
-
 pub shape_of-out : goal.shape_of-out
 shape_of-out c = c.loop-k.invariant.0 ∙ sym c.requires.sums_bound.1

@@ -19,6 +19,3 @@ use Rattle.twelve.proofs.writing.put_months.Given as goal
 abbrev pub invariant-loop-k : goal.invariant-loop-k
 invariant-loop-k l =
     (length l.out ≡ length l.sums * twelve_width) × Written twelve_width (summed_row l.first l.largest l.sums) (span 0 (length l.sums)) l.k (l.k * twelve_width) l.out
-
-abbrev pub decreases-loop-k : goal.decreases-loop-k
-decreases-loop-k l = length l.sums - l.k
