@@ -61,9 +61,7 @@ pub fn add_entry(entry: Entry, finishes: &[u64], figures: &mut [i64])
     let period = entry.period as usize;
     let close = finishes[period];
     figures[period * WIDTH] = 1;
-    let mut p = 0;
-    while p < finishes.len() {
-        add_to(entry, close, p, finishes[p], figures);
-        p += 1;
+    for (p, &finish) in finishes.iter().enumerate() {
+        add_to(entry, close, p, finish, figures);
     }
 }

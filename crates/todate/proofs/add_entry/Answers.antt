@@ -1,12 +1,11 @@
 -- `add_entry` meets its contract: one period a turn.
-use borrow.Author.Rules.{rules}
 use native.Mathlib.Omega.{arith}
-use Prim.Native.Nat.{◌*◌, ◌-◌}
+use Prim.Native.Nat.{◌*◌}
 use mathlib.Core.Path.{refl, ◌∙◌}
 use lib.IntN.{pos}
-use lib.ListN.{length, length-set}
+use lib.ListN.{length-set}
 use Rattle.flat.proofs.Cells.{row_inside}
-use Rattle.todate.proofs.Adding.{Closed, closed_none, closed_more, entered_all}
+use Rattle.todate.proofs.Adding.{closed_none, closed_more, entered_all}
 use Rattle.todate.proofs.add_entry.Goals as goal
 
 pub loop-p-init : goal.loop-p-init

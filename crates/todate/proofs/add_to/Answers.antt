@@ -1,5 +1,4 @@
 -- `add_to` meets its contract: by whether the entry closes no later.
-use borrow.Author.Rules.{rules}
 use native.Mathlib.Omega.{arith}
 use Prim.Native.Nat.{◌+◌, ◌*◌}
 use mathlib.Core.Path.{ap₂, ◌∙◌}

@@ -1,5 +1,4 @@
 -- `entry_of` meets its contract: one kind after the other.
-use borrow.Author.Rules.{rules}
 use mathlib.Core.Path.{refl}
 use mir.Syntax.{w64}
 use Rattle.integer.specs.Linear.{back}
