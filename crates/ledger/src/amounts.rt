@@ -13,15 +13,12 @@ use sections::Section;
 pub fn sum_amounts(book: &[u8], list: Section) -> i64
     ensures { result ≡ saturated w64 (pos 0) (alike_in layout.amount book.now list) }
 {
-    let count = list.count;
     let mut next = list.first;
     let mut sum: i64 = 0;
-    let mut i: u64 = 0;
-    while i < count {
+    for _ in 0..list.count {
         let a = amount(book, next);
         sum = saturating_add(sum, a.value);
         next = a.next;
-        i += 1;
     }
     sum
 }

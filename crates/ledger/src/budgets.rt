@@ -48,16 +48,13 @@ pub fn take_budgets(
     ensures table { accounts.new ≡ foldl budget_taken accounts.old (content book.now).budgets }
     ensures named { marks.new ≡ foldl (marked_by budget_place) marks.old (content book.now).budgets }
 {
-    let count = list.count;
     let mut next = list.first;
-    let mut i: u64 = 0;
-    while i < count {
+    for _ in 0..list.count {
         let b = next_budget(book, next, activities, marks);
         take_budget(book, b, accounts);
         let account = b.activity;
         let k = account_number(account);
         marks[k] = 1;
         next = b.next;
-        i += 1;
     }
 }

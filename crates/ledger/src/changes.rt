@@ -44,16 +44,13 @@ pub fn take_changes(
     ensures table { accounts.new ≡ foldl change_taken accounts.old (content book.now).log }
     ensures named { marks.new ≡ foldl (marked_by change_place) marks.old (content book.now).log }
 {
-    let count = list.count;
     let mut next = list.first;
-    let mut i: u64 = 0;
-    while i < count {
+    for _ in 0..list.count {
         let change = read_budget_change(book, next, activities);
         take_change(change, accounts);
         let account = change.activity;
         let k = account_number(account);
         marks[k] = 1;
         next = change.next;
-        i += 1;
     }
 }

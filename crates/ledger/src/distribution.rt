@@ -10,12 +10,10 @@ pub fn distribute(parents: &[u64], marks: &[u64; 501], accounts: &mut [i64; 3006
     requires { (length parents.now ≤ 500) × ((i : ℕ) → i < length parents.now → get_or parents.now i 0 < 501) }
     ensures { accounts.new ≡ foldl (given_up parents.now accounts.old) accounts.old (marked_of marks.now (length parents.now)) }
 {
-    let mut i = 0;
-    while i < parents.len() {
+    for i in 0..parents.len() {
         if marks[i] != 0 {
             let given = current(accounts, i);
             add_figure(parents[i] as usize, DISTRIBUTED, given, accounts);
         }
-        i += 1;
     }
 }

@@ -12,6 +12,7 @@ use crate::accounts::{DISTRIBUTED, ORIGINAL, PENDING, PLANNED, account_number, c
 use fields::OptionalNumber;
 use money::sums::saturating_add;
 use money::words::to_bits;
+use rows::put_row;
 use tree::table::COST_WIDTH;
 use tree::walk_up;
 
@@ -92,18 +93,6 @@ fn row_of(line: Line) -> [u64; 10]
     ]
 }
 
-// Puts a row from `at` on.
-fn put_row(row: &[u64], at: usize, out: &mut [u64])
-    requires { at + length row.now ≤ length out.old }
-    ensures { out.new ≡ sets out.old at row.now }
-{
-    let mut j = 0;
-    while j < row.len() {
-        out[at + j] = row[j];
-        j += 1;
-    }
-}
-
 // Puts the row of a line from `at` on.
 fn put_line(line: Line, at: usize, out: &mut [u64])
     requires { at + 10 ≤ length out.old }
@@ -137,13 +126,11 @@ pub fn put_lines(
 {
     put_project(whole, accounts, out);
     let mut at = 10;
-    let mut i = 0;
-    while i < parents.len() {
+    for i in 0..parents.len() {
         if marks[i] != 0 {
             let line = line_of(i, parents, costs, accounts);
             put_line(line, at, out);
             at += 10;
         }
-        i += 1;
     }
 }

@@ -8,12 +8,10 @@ pub fn mark_parents(parents: &[u64; 500], count: usize, marks: &mut [u64; 501])
     requires { count ≤ 500 }
     ensures { marks.new ≡ foldl (marked_by (λ i. i)) marks.old (marked_of parents.now count) }
 {
-    let mut i = 0;
-    while i < count {
+    for i in 0..count {
         if parents[i] != 0 {
             marks[i] = 1;
         }
-        i += 1;
     }
 }
 
@@ -23,12 +21,10 @@ pub fn count_marked(marks: &[u64; 501], count: usize) -> u64
     ensures { result ≡ length (marked_of marks.now count) }
 {
     let mut found: u64 = 0;
-    let mut i = 0;
-    while i < count {
+    for i in 0..count {
         if marks[i] != 0 {
             found += 1;
         }
-        i += 1;
     }
     found
 }

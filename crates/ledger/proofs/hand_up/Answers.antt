@@ -1,6 +1,5 @@
 -- `hand_up` meets its contract: the marks, then the distribution.
 use Rattle.ledger.proofs.Handed.{all_done}
-use borrow.Author.Rules.{rules}
 use Rattle.ledger.proofs.hand_up.Goals as goal
 
 pub returns : goal.returns

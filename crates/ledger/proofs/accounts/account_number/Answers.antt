@@ -1,7 +1,6 @@
 -- `account_number` meets its contract: a place of the marks.
 use Rattle.fields.specs.Optional.{number_option}
 use Rattle.sections.proofs.Marks.{place_below}
-use borrow.Author.Rules.{rules}
 use Rattle.ledger.proofs.accounts.account_number.Goals as goal
 
 pub returns : goal.returns

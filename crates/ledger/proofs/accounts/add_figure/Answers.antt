@@ -6,7 +6,6 @@ use mir.Syntax.{w64}
 use mir.Facts.{to_z-of_z}
 use Rattle.integer.specs.Linear.{back}
 use Rattle.tree.specs.Figures.{figure_of, saturating_add}
-use borrow.Author.Rules.{rules}
 use Rattle.ledger.proofs.accounts.add_figure.Goals as goal
 
 pub returns : goal.returns

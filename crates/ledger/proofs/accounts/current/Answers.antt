@@ -3,7 +3,6 @@ use mathlib.Core.Path.{ap₂, ◌∙◌}
 use mir.Syntax.{w64}
 use Rattle.integer.specs.Linear.{back}
 use Rattle.tree.specs.Figures.{saturating_add}
-use borrow.Author.Rules.{rules}
 use Rattle.ledger.proofs.accounts.current.Goals as goal
 
 pub returns : goal.returns

@@ -18,19 +18,19 @@ use borrow.Author.Rules.{rules}
 use Rattle.ledger.proofs.amounts.sum_amounts.Invariants.{listed}
 use Rattle.ledger.proofs.amounts.sum_amounts.Goals as goal
 
-pub loop-i-init : goal.loop-i-init
+pub loop-init : goal.loop-init
 unfolding elements
-loop-i-init c =
+loop-init c =
     (reading_none (λ (x : Unit {0}). amount) stay _ _ tt c.args.list refl, refl)
 
-pub loop-i-preserved : goal.loop-i-preserved
+pub loop-preserved : goal.loop-preserved
 unfolding saturated
-loop-i-preserved c =
-    let l = c.loop-i in
-    let more = c.loop-i-test.true in
+loop-preserved c =
+    let l = c.loop in
+    let more = c.loop-test.true in
     let e = reading_next l.invariant.0 more c.amount-a.ensures in (
       reading_more l.invariant.0 more c.amount-a.ensures,
-      ap (λ (z : ℤ). saturated w64 z (drop (l.i + 1) (listed c.args.book.now c.args.list.count c.args.list.first)))
+      ap (λ (z : ℤ). saturated w64 z (drop (l.counter + 1) (listed c.args.book.now c.args.list.count c.args.list.first)))
           (back w64 c.saturating_add-sum.result c.saturating_add-sum.type_inv
           ∙ c.saturating_add-sum.ensures
           ∙ ap (saturating_add (to_z w64 l.sum-bits)) (back w64 c.amount-a.result.value c.struct_told-1.given.0.1))
@@ -41,5 +41,5 @@ loop-i-preserved c =
 pub returns : goal.returns
 unfolding elements saturated
 returns c =
-    let l = c.loop-i in
-    sym (ap (saturated w64 (to_z w64 l.sum-bits)) (reading_end l.invariant.0 c.loop-i-test.false)) ∙ l.invariant.1
+    let l = c.loop in
+    sym (ap (saturated w64 (to_z w64 l.sum-bits)) (reading_end l.invariant.0 c.loop-test.false)) ∙ l.invariant.1

@@ -26,8 +26,5 @@ Along book count first sum i next =
     Reading (λ (x : Unit {0}). amount) stay book (listed book count first) count i tt next
     × (saturated w64 sum (drop i (listed book count first)) ≡ saturated w64 (pos 0) (listed book count first))
 
-abbrev pub invariant-loop-i : goal.invariant-loop-i
-invariant-loop-i l = Along l.book l.count l.initial.next l.sum l.i l.next
-
-abbrev pub decreases-loop-i : goal.decreases-loop-i
-decreases-loop-i l = l.count - l.i
+abbrev pub invariant-loop : goal.invariant-loop
+invariant-loop l = Along l.book l.end l.initial.next l.sum l.counter l.next

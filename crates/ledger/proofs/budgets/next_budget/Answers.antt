@@ -2,7 +2,6 @@
 use mathlib.Core.Path.{ap, ◌∙◌}
 use Rattle.sections.specs.Sections.{mark_of}
 use Rattle.tree.specs.Figures.{is_unmarked}
-use borrow.Author.Rules.{rules}
 use Rattle.ledger.proofs.budgets.next_budget.Goals as goal
 
 pub returns : goal.returns

@@ -10,16 +10,16 @@ use Rattle.ledger.proofs.Naming.{Naming, naming_none, naming_next, naming_more, 
 use borrow.Author.Rules.{rules}
 use Rattle.ledger.proofs.budgets.take_budgets.Goals as goal
 
-pub loop-i-init : goal.loop-i-init
-loop-i-init c =
+pub loop-init : goal.loop-init
+loop-init c =
     (naming_none c.requires.budgets c.requires.marks_value, folded_none _ _ _, folded_none _ _ _)
 
-pub loop-i-preserved : goal.loop-i-preserved
+pub loop-preserved : goal.loop-preserved
 unfolding budget_of
-loop-i-preserved c =
+loop-preserved c =
     let got = c.next_budget-b in
-    let l = c.loop-i in
-    let more = c.loop-i-test.true in
+    let l = c.loop in
+    let more = c.loop-test.true in
     let most = c.requires.budgets.most in
     let marked = ap (λ (k : ℕ). set l.marks k 1) c.account_number-k.ensures.0 in
     let e = naming_next l.invariant.0 most more got.result got.ensures in (
@@ -30,6 +30,6 @@ loop-i-preserved c =
 
 pub returns : goal.returns
 returns c =
-    let l = c.loop-i in
-    let all = naming_end l.invariant.0 c.loop-i-test.false in
+    let l = c.loop in
+    let all = naming_end l.invariant.0 c.loop-test.false in
     record { table = folded_end l.invariant.1 all; named = folded_end l.invariant.2 all }

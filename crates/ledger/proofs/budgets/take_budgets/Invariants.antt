@@ -10,11 +10,8 @@ use Rattle.ledger.proofs.Naming.{Naming, naming_none, naming_next, naming_more, 
 use borrow.Author.Rules.{rules}
 use Rattle.ledger.proofs.budgets.take_budgets.Given as goal
 
-abbrev pub invariant-loop-i : goal.invariant-loop-i
-invariant-loop-i l =
-    Naming l.book l.activities l.count l.i l.marks l.next
-    × Folded budget_taken l.initial.accounts (content l.book).budgets l.i l.accounts
-    × Folded (marked_by budget_place) l.initial.marks (content l.book).budgets l.i l.marks
-
-abbrev pub decreases-loop-i : goal.decreases-loop-i
-decreases-loop-i l = l.count - l.i
+abbrev pub invariant-loop : goal.invariant-loop
+invariant-loop l =
+    Naming l.book l.activities l.end l.counter l.marks l.next
+    × Folded budget_taken l.initial.accounts (content l.book).budgets l.counter l.accounts
+    × Folded (marked_by budget_place) l.initial.marks (content l.book).budgets l.counter l.marks

@@ -2,7 +2,6 @@
 use native.Mathlib.Omega.{arith}
 use mathlib.Core.Path.{refl}
 use Rattle.format.specs.Enumeration.{change_status_number}
-use borrow.Author.Rules.{rules}
 use Rattle.ledger.proofs.changes.status_number.Goals as goal
 
 pub returns-in-Pending : goal.returns-in-Pending

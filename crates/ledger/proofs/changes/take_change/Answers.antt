@@ -7,7 +7,6 @@ use mir.Syntax.{w64}
 use Rattle.integer.specs.Linear.{back}
 use Rattle.records.specs.Decoded.{budget_change_of}
 use Rattle.tree.specs.Figures.{add_at}
-use borrow.Author.Rules.{rules}
 use Rattle.ledger.proofs.changes.take_change.Goals as goal
 
 -- the figure that is changed, by what is equal

@@ -11,15 +11,15 @@ use Rattle.ledger.proofs.Reading.{Reading, reading_none, reading_more, reading_n
 use borrow.Author.Rules.{rules}
 use Rattle.ledger.proofs.changes.take_changes.Goals as goal
 
-pub loop-i-init : goal.loop-i-init
-loop-i-init c =
+pub loop-init : goal.loop-init
+loop-init c =
     (reading_none (λ (x : Unit {0}). budget_change c.args.activities) stay _ _ tt c.args.list c.requires.listed, folded_none _ _ _, folded_none _ _ _)
 
-pub loop-i-preserved : goal.loop-i-preserved
+pub loop-preserved : goal.loop-preserved
 unfolding budget_change_of
-loop-i-preserved c =
-    let l = c.loop-i in
-    let more = c.loop-i-test.true in
+loop-preserved c =
+    let l = c.loop in
+    let more = c.loop-test.true in
     let e = reading_next l.invariant.0 more c.read_budget_change-change.ensures in (
       reading_more l.invariant.0 more c.read_budget_change-change.ensures,
       folded_more l.invariant.1 e _ c.take_change.ensures,
@@ -28,6 +28,6 @@ loop-i-preserved c =
 
 pub returns : goal.returns
 returns c =
-    let l = c.loop-i in
-    let all = reading_end l.invariant.0 c.loop-i-test.false in
+    let l = c.loop in
+    let all = reading_end l.invariant.0 c.loop-test.false in
     record { table = folded_end l.invariant.1 all; named = folded_end l.invariant.2 all }

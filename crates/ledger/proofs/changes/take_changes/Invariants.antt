@@ -11,11 +11,8 @@ use Rattle.ledger.proofs.Reading.{Reading, reading_none, reading_more, reading_n
 use borrow.Author.Rules.{rules}
 use Rattle.ledger.proofs.changes.take_changes.Given as goal
 
-abbrev pub invariant-loop-i : goal.invariant-loop-i
-invariant-loop-i l =
-    Reading (λ (x : Unit {0}). budget_change l.activities) stay l.book (content l.book).log l.count l.i tt l.next
-    × Folded change_taken l.initial.accounts (content l.book).log l.i l.accounts
-    × Folded (marked_by change_place) l.initial.marks (content l.book).log l.i l.marks
-
-abbrev pub decreases-loop-i : goal.decreases-loop-i
-decreases-loop-i l = l.count - l.i
+abbrev pub invariant-loop : goal.invariant-loop
+invariant-loop l =
+    Reading (λ (x : Unit {0}). budget_change l.activities) stay l.book (content l.book).log l.end l.counter tt l.next
+    × Folded change_taken l.initial.accounts (content l.book).log l.counter l.accounts
+    × Folded (marked_by change_place) l.initial.marks (content l.book).log l.counter l.marks

@@ -1,17 +1,15 @@
 -- `distribute` meets its contract: one activity a turn.
-use Prim.Native.Nat.{◌+◌, ◌-◌, ◌*◌, ◌≤◌}
+use Prim.Native.Nat.{◌+◌, ◌*◌}
 use native.Mathlib.Omega.{arith}
 use mathlib.Core.Path.{sym, ap, subst, ◌∙◌}
 use mathlib.Core.Bool.{not}
-use mathlib.Core.Logic.{⊎_elim}
 use lib.IntN.{ℤ}
-use lib.ListN.{length, get_or}
+use lib.ListN.{get_or}
 use mir.Syntax.{w64}
 use borrow.Author.Tests.{eq-eqb, ne_eqb}
 use Rattle.integer.specs.Linear.{back}
 use Rattle.tree.specs.Figures.{add_at}
 use Rattle.ledger.proofs.Handed.{Giving, giving_none, giving_more, giving_past, giving_end}
-use borrow.Author.Rules.{rules}
 use Rattle.ledger.proofs.distribution.distribute.Goals as goal
 use Rattle.ledger.proofs.distribution.distribute.Goals.{else-marks-i-ne0, then-marks-i-ne0}
 

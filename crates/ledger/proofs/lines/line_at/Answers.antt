@@ -5,7 +5,6 @@ use mir.Facts.{to_z-of_z}
 use Rattle.integer.specs.Linear.{back}
 use Rattle.tree.specs.Figures.{saturating_add}
 use Rattle.ledger.specs.Lines.{line_of, line_in}
-use borrow.Author.Rules.{rules}
 use Rattle.ledger.proofs.lines.line_at.Goals as goal
 
 pub returns : goal.returns

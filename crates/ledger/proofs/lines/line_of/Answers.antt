@@ -9,7 +9,6 @@ use Rattle.integer.specs.Linear.{back}
 use Rattle.tree.specs.Figures.{parents_of, figure_of}
 use Rattle.ledger.specs.Lines.{line_in, activity_line}
 use Rattle.ledger.proofs.Lined.{made_most}
-use borrow.Author.Rules.{rules}
 use Rattle.ledger.proofs.lines.line_of.Goals as goal
 
 pub overflow_add-steps : goal.overflow_add-steps

@@ -1,6 +1,5 @@
 -- `optional_pair` meets its contract.
 use Rattle.rows.specs.Rows.{optional}
-use borrow.Author.Rules.{rules}
 use Rattle.ledger.proofs.lines.optional_pair.Goals as goal
 
 pub returns-in-Absent : goal.returns-in-Absent

@@ -28,6 +28,3 @@ use Rattle.ledger.proofs.lines.put_lines.Given as goal
 abbrev pub invariant-loop-i : goal.invariant-loop-i
 invariant-loop-i l =
     Writing 10 budget_row (flat_map budget_row (lines_in l.accounts l.parents l.costs l.marks l.whole)) (map (activity_line l.accounts l.parents l.costs) (onward (is_marked l.marks) (length l.parents) l.i)) l.at l.out
-
-abbrev pub decreases-loop-i : goal.decreases-loop-i
-decreases-loop-i l = length l.parents - l.i

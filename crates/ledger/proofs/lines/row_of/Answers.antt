@@ -14,7 +14,6 @@ use Rattle.fields.specs.Optional.{number_option}
 use Rattle.rows.specs.Rows.{optional}
 use Rattle.answers.specs.Rows.{budget_row}
 use Rattle.ledger.specs.Lines.{line_of}
-use borrow.Author.Rules.{rules}
 use Rattle.ledger.proofs.lines.row_of.Goals as goal
 
 -- two's complement of what a struct holds

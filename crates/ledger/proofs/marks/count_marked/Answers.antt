@@ -1,14 +1,11 @@
 -- `count_marked` meets its contract: one mark a turn.
-use Prim.Native.Nat.{◌+◌, ◌-◌, ◌≤◌}
 use native.Mathlib.Omega.{arith}
-use mathlib.Core.Path.{◌≡◌, ap}
+use mathlib.Core.Path.{ap}
 use mathlib.Core.Bool.{not}
-use mathlib.Core.Logic.{⊎_elim}
 use lib.ListN.{length}
 use borrow.Author.Tests.{eq-eqb, ne_eqb}
-use Rattle.ledger.specs.Accounts.{is_marked, marked_of}
-use Rattle.ledger.proofs.Named.{onward, onward_first, onward_taken, onward_passed, onward_end}
-use borrow.Author.Rules.{rules}
+use Rattle.ledger.specs.Accounts.{is_marked}
+use Rattle.ledger.proofs.Named.{onward_first, onward_taken, onward_passed, onward_end}
 use Rattle.ledger.proofs.marks.count_marked.Goals as goal
 use Rattle.ledger.proofs.marks.count_marked.Goals.{else-marks-i-ne0, then-marks-i-ne0}
 

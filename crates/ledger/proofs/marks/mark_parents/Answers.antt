@@ -1,14 +1,12 @@
 -- `mark_parents` meets its contract: one mark a turn.
-use Prim.Native.Nat.{ℕ, ◌+◌, ◌-◌, ◌≤◌}
+use Prim.Native.Nat.{ℕ, ◌+◌}
 use native.Mathlib.Omega.{arith}
-use mathlib.Core.Path.{◌≡◌, sym, ap, ◌∙◌}
+use mathlib.Core.Path.{sym, ap, ◌∙◌}
 use mathlib.Core.Bool.{not}
 use mathlib.Core.List.{List, foldl}
-use mathlib.Core.Logic.{⊎_elim}
 use borrow.Author.Tests.{eq-eqb, ne_eqb}
-use Rattle.ledger.specs.Accounts.{marked_by, is_marked, marked_of}
+use Rattle.ledger.specs.Accounts.{marked_by, is_marked}
 use Rattle.ledger.proofs.Named.{onward, onward_first, onward_taken, onward_passed, onward_end}
-use borrow.Author.Rules.{rules}
 use Rattle.ledger.proofs.marks.mark_parents.Goals as goal
 use Rattle.ledger.proofs.marks.mark_parents.Goals.{else-parents-i-ne0, then-parents-i-ne0}
 
