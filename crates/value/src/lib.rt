@@ -76,10 +76,8 @@ pub fn put_values(table: &[i64], n: usize, out: &mut [u64])
     requires { (length table.now ≡ n * figures) × (length out.old ≡ n * earned_width) }
     ensures { (book : Book) (date : ℕ) → length book.activities ≡ n → table.now ≡ rolled_values book date → out.new ≡ numbers (earned_value_rows date book) }
 {
-    let mut i = 0;
-    while i < n {
+    for i in 0..n {
         put_earned(earned_at(table, i), i * EARNED_WIDTH, out);
-        i += 1;
     }
 }
 

@@ -34,12 +34,10 @@ fn put_lines(table: &[i64], lines: &[u64], count: usize, out: &mut [u64])
     requires out_len { length out.old ≡ count * outline_width }
     ensures { out.new ≡ flat_map (outlined_in table.now lines.now) (span 0 count) }
 {
-    let mut k = 0;
-    while k < count {
+    for k in 0..count {
         let index = lines[k * LINE_WIDTH + 1];
         let e = earned_at(table, index as usize);
         put_line(lines[k * LINE_WIDTH], index, e, k * OUTLINE_WIDTH, out);
-        k += 1;
     }
 }
 

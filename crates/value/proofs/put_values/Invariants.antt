@@ -17,6 +17,3 @@ use Rattle.value.proofs.put_values.Given as goal
 abbrev pub invariant-loop-i : goal.invariant-loop-i
 invariant-loop-i l =
     (length l.out ≡ l.n * earned_width) × Written earned_width (λ i. earned_row (earned_in l.table i)) (span 0 l.n) l.i (l.i * earned_width) l.out
-
-abbrev pub decreases-loop-i : goal.decreases-loop-i
-decreases-loop-i l = l.n - l.i

@@ -59,11 +59,5 @@ overflow_mul-k-in-loop-k c = omega arith
 pub put_line-requires : goal.put_line-requires
 put_line-requires c = omega arith
 
-pub overflow_add-k : goal.overflow_add-k
-overflow_add-k c = omega arith
-
-pub loop-k-smaller : goal.loop-k-smaller
-loop-k-smaller c = omega arith
-
 pub shape_of-out : goal.shape_of-out
 shape_of-out c = c.loop-k.invariant.0 ∙ sym c.requires.out_len

@@ -14,6 +14,3 @@ use Rattle.value.proofs.lines.put_lines.Given as goal
 abbrev pub invariant-loop-k : goal.invariant-loop-k
 invariant-loop-k l =
     (length l.out ≡ l.count * outline_width) × Written outline_width (outlined_in l.table l.lines) (span 0 l.count) l.k (l.k * outline_width) l.out
-
-abbrev pub decreases-loop-k : goal.decreases-loop-k
-decreases-loop-k l = l.count - l.k
