@@ -81,11 +81,9 @@ pub fn put_figures(out: &mut [u8], at: usize, numbers: &[u64]) -> usize
     ensures out_after { take result out.new ≡ take at out.old ++ figures numbers.now }
 {
     let mut end = at;
-    let mut i: usize = 0;
-    while i < numbers.len() {
+    for &number in numbers {
         let behind = put(out, end, b" ");
-        end = put_signed(out, behind, numbers[i]);
-        i += 1;
+        end = put_signed(out, behind, number);
     }
     end
 }

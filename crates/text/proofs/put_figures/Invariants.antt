@@ -10,10 +10,7 @@ use Rattle.text.specs.Text.{figures}
 use Rattle.text.proofs.Spelling.{figures_next, figures_end}
 use Rattle.text.proofs.put_figures.Given as goal
 
-abbrev pub invariant-loop-i : goal.invariant-loop-i
-invariant-loop-i l =
-    (length l.out ≡ length l.initial.out) × (l.i ≤ length l.numbers) × (l.end ≤ l.at + 22 * l.i)
-    × (take l.end l.out ++ figures (drop l.i l.numbers) ≡ take l.at l.initial.out ++ figures l.numbers)
-
-abbrev pub decreases-loop-i : goal.decreases-loop-i
-decreases-loop-i l = length l.numbers - l.i
+abbrev pub invariant-loop-number : goal.invariant-loop-number
+invariant-loop-number l =
+    (length l.out ≡ length l.initial.out) × (l.number-index ≤ length l.numbers) × (l.end ≤ l.at + 22 * l.number-index)
+    × (take l.end l.out ++ figures (drop l.number-index l.numbers) ≡ take l.at l.initial.out ++ figures l.numbers)
