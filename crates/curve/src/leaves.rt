@@ -21,10 +21,8 @@ pub fn lay_leaves(
     requires { AreTabled base width (length budgets.now) days.now listed.now }
     ensures { Laid base (budgets_laid base width days.now marks.now listed.now budgets.now) table.old table.new }
 {
-    let mut i: usize = 0;
-    while i < budgets.len() {
+    for i in 0..budgets.len() {
         if marks[i] != 0 {
-            i += 1;
             continue;
         }
         let at = i * LISTED_WIDTH;
@@ -38,6 +36,5 @@ pub fn lay_leaves(
         );
         let budget = budgets[i];
         lay_spread(budget, days, span, table);
-        i += 1;
     }
 }

@@ -10,7 +10,7 @@ ghost use Rattle.answers.specs.Calls.{Puts};
 ghost use Rattle.answers.specs.Opened.{IsOpened};
 ghost use Rattle.answers.specs.Rows.{point_row, planned_curve_rows};
 ghost use Rattle.laid.specs.Laid.{Laid};
-ghost use Rattle.bydate.specs.Sizes.{dates_of, FitsSmall, IsEmpty};
+ghost use Rattle.bydate.specs.Sizes.{dates_of, IsEmpty};
 ghost use Rattle.phased.specs.Columns.{ArePhased};
 ghost use Rattle.curve.specs.Asking.{narrowed, IsAsked};
 
@@ -99,8 +99,8 @@ fn rows_in(
     write_totals(asked.reach.known.from, asked.from, asked.to, table, out)
 }
 
-// The rows of a stretch of at most 256 dates.
-fn short_rows(
+// The same, with tables of its own.
+fn sized_rows<const DAYS: usize, const TABLE: usize>(
     book: &[u8],
     asked: Asked,
     marks: &[u64; 500],
@@ -109,67 +109,15 @@ fn short_rows(
     out: &mut [u64],
 ) -> Reply
     requires asked { IsAsked book.now asked marks.now listed.now budgets.now }
-    requires known_bound { dates_of asked.reach.known ≤ 256 }
+    requires room { (asked.reach.calendars.count * dates_of asked.reach.known ≤ DAYS) × (dates_of asked.reach.known * 2 ≤ TABLE) }
+    requires most { (DAYS ≤ 584400) × (TABLE ≤ 73050) }
     ensures { Puts (map point_row (planned_curve_between (content book.now) asked.from asked.to)) out.old result out.new }
 {
-    let mut days = [0u8; 4096];
-    let mut table = [0u64; 512];
+    let mut days = [0u8; DAYS];
+    let mut table = [0u64; TABLE];
     rows_in(
         book, asked, marks, budgets, listed, &mut days, &mut table, out,
     )
-}
-
-// The rows, by small tables.
-fn small_rows(
-    book: &[u8],
-    asked: Asked,
-    marks: &[u64; 500],
-    budgets: &[i64],
-    listed: &[u64],
-    out: &mut [u64],
-) -> Reply
-    requires asked { IsAsked book.now asked marks.now listed.now budgets.now }
-    requires fits_small { FitsSmall asked.reach.calendars.count asked.reach.known }
-    ensures { Puts (map point_row (planned_curve_between (content book.now) asked.from asked.to)) out.old result out.new }
-{
-    let mut days = [0u8; 8192];
-    let mut table = [0u64; 4096];
-    rows_in(
-        book, asked, marks, budgets, listed, &mut days, &mut table, out,
-    )
-}
-
-// The rows, by a table for all dates of a book.
-fn full_table(
-    book: &[u8],
-    asked: Asked,
-    marks: &[u64; 500],
-    budgets: &[i64],
-    listed: &[u64],
-    days: &mut [u8; 584400],
-    out: &mut [u64],
-) -> Reply
-    requires { IsAsked book.now asked marks.now listed.now budgets.now }
-    ensures { Puts (map point_row (planned_curve_between (content book.now) asked.from asked.to)) out.old result out.new }
-{
-    let mut table = [0u64; 73050];
-    rows_in(book, asked, marks, budgets, listed, days, &mut table, out)
-}
-
-// The same, with room for the days of as many calendars as a book may have.
-fn full_rows(
-    book: &[u8],
-    asked: Asked,
-    marks: &[u64; 500],
-    budgets: &[i64],
-    listed: &[u64],
-    out: &mut [u64],
-) -> Reply
-    requires { IsAsked book.now asked marks.now listed.now budgets.now }
-    ensures { Puts (map point_row (planned_curve_between (content book.now) asked.from asked.to)) out.old result out.new }
-{
-    let mut days = [0u8; 584400];
-    full_table(book, asked, marks, budgets, listed, &mut days, out)
 }
 
 // The rows between two dates, from what planned value is made of.
@@ -192,9 +140,9 @@ fn rows_of(
         return Reply::Accepted(0);
     }
     if fits_small(reach.calendars.count, reach.known) {
-        return small_rows(book, asked, marks, budgets, listed, out);
+        return sized_rows::<8192, 4096>(book, asked, marks, budgets, listed, out);
     }
-    full_rows(book, asked, marks, budgets, listed, out)
+    sized_rows::<584400, 73050>(book, asked, marks, budgets, listed, out)
 }
 
 // The rows between two dates, with slices to work in.
@@ -253,7 +201,7 @@ fn few_of(
         return Reply::Accepted(0);
     }
     if reach.known.to < reach.known.from + 256 {
-        return short_rows(book, asked, marks, budgets, listed, out);
+        return sized_rows::<4096, 512>(book, asked, marks, budgets, listed, out);
     }
     many_rows(book, opened, between, out)
 }

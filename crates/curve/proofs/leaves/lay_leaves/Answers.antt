@@ -21,9 +21,6 @@ loop-i-init c = leaves_none _ _ _ _ _ _ _
 pub bounds-marks-i : goal.bounds-marks-i
 bounds-marks-i c = omega (arith, c.requires.most)
 
-pub loop-i-smaller-then-marks-i-ne0 : goal.loop-i-smaller-then-marks-i-ne0
-loop-i-smaller-then-marks-i-ne0 c = omega arith
-
 pub loop-i-preserved-then-marks-i-ne0 : goal.loop-i-preserved-then-marks-i-ne0
 loop-i-preserved-then-marks-i-ne0 c =
     let s = c.args in
@@ -57,9 +54,6 @@ bounds-budgets-i c = omega arith
 
 pub lay_spread-requires : goal.lay_spread-requires
 lay_spread-requires c = span_has c.requires c.loop-i.i c.loop-i-test.true c.span_of-span.ensures
-
-pub loop-i-smaller : goal.loop-i-smaller
-loop-i-smaller c = omega arith
 
 pub loop-i-preserved : goal.loop-i-preserved
 loop-i-preserved c =

@@ -18,6 +18,3 @@ use Rattle.curve.proofs.leaves.lay_leaves.Given as goal
 abbrev pub invariant-loop-i : goal.invariant-loop-i
 invariant-loop-i l =
     Laying l.base (budgets_laid l.base l.width l.days l.marks l.listed l.budgets) l.initial.table (laid_from l.base l.width l.days l.marks l.listed l.budgets l.i) l.table
-
-abbrev pub decreases-loop-i : goal.decreases-loop-i
-decreases-loop-i l = length l.budgets - l.i
