@@ -114,6 +114,10 @@ module _ (links₀ : List ℕ) where
             rw (here, get_or-set_same links (j * 2) (get_or heads a 0) 0 (omega (arith, w.long)))
             (subst (λ (i : ℕ). IsNext of n i (j + 1) (get_or heads a 0)) (e ∙ chaining_account) (subst (λ (k : ℕ). IsNext of n a k (get_or heads a 0)) after (w.first a few)))
 
+  -- from the last charge on
+  pub chaining_start : Chaining (n - n) links₀ (replicate 500 0)
+  chaining_start = let none : 0 ≡ n - n = omega arith in subst (λ (l : ℕ). Chaining l links₀ (replicate 500 0)) none chaining_none
+
   pub chaining_end : {left : ℕ} {links heads : List ℕ} → Chaining left links heads → n ≤ left → Chained links₀ links heads
   chaining_end {left} {heads} w h =
       let all : n - left ≡ 0 = omega arith in

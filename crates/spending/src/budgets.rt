@@ -1,5 +1,5 @@
 // The tables of what is charged to the budgets of an accepted book: its charges and the rates of its resources, in arrays for few of them, or for as many as a book may have.
-ghost use Rattle.std.specs.Prelude.{◌*◌, true, ◌≡◌, length};
+ghost use Rattle.std.specs.Prelude.{◌*◌, ◌≤◌, true, ◌≡◌, length};
 ghost use Rattle.format.specs.Verdict.{content};
 ghost use Rattle.book.specs.Plan.{IsPlanOf};
 ghost use Rattle.model.specs.Costs.{spending_between};
@@ -55,10 +55,7 @@ fn charged_rows(
 fn are_within(most: u64, rated: u64, charges: u64, resources: u64) -> bool
     ensures { result ≡ true → AreWithin most rated charges resources }
 {
-    if most < charges {
-        return false;
-    }
-    resources <= rated
+    charges <= most && resources <= rated
 }
 
 // Whether so many charges and resources are few.
@@ -68,37 +65,21 @@ pub fn are_few(charges: u64, resources: u64) -> bool
     are_within(256, 24, charges, resources)
 }
 
-// The rows, where there are very few.
-fn fewest_rows(book: &[u8], asked: Asked, schedule: &[u64], out: &mut [u64]) -> Reply
+// The rows, with arrays for the charges and the rates.
+fn sized_rows<const RATES: usize, const LINKS: usize, const UNITS: usize>(
+    book: &[u8],
+    asked: Asked,
+    schedule: &[u64],
+    out: &mut [u64],
+) -> Reply
     requires asked { IsAsked book.now asked schedule.now }
-    requires are_within { AreWithin 48 6 (charge_count asked.opened.plan) asked.opened.plan.resources.count }
+    requires room { (asked.opened.plan.resources.count * 82 ≤ RATES) × (charge_count asked.opened.plan * 2 ≤ LINKS) × (charge_count asked.opened.plan * 3 ≤ UNITS) }
+    requires most { (RATES ≤ 16400) × (LINKS ≤ 6000) × (UNITS ≤ 9000) }
     ensures { Writes asked.grain (spending_between (content book.now) asked.from asked.to) out.old result out.new }
 {
-    let mut rates = [0u64; 492];
-    let mut links = [0u64; 96];
-    let mut units = [0i64; 144];
-    let r = asked.opened.plan.resources.count as usize;
-    let n = (asked.opened.plan.assignments.count + asked.opened.plan.expenses.count) as usize;
-    charged_rows(
-        book,
-        asked,
-        schedule,
-        &mut rates[..r * RATE_WIDTH],
-        &mut links[..n * 2],
-        &mut units[..n * 3],
-        out,
-    )
-}
-
-// The same, where there are some more.
-fn some_rows(book: &[u8], asked: Asked, schedule: &[u64], out: &mut [u64]) -> Reply
-    requires asked { IsAsked book.now asked schedule.now }
-    requires are_within { AreWithin 256 24 (charge_count asked.opened.plan) asked.opened.plan.resources.count }
-    ensures { Writes asked.grain (spending_between (content book.now) asked.from asked.to) out.old result out.new }
-{
-    let mut rates = [0u64; 1968];
-    let mut links = [0u64; 512];
-    let mut units = [0i64; 768];
+    let mut rates = [0u64; RATES];
+    let mut links = [0u64; LINKS];
+    let mut units = [0i64; UNITS];
     let r = asked.opened.plan.resources.count as usize;
     let n = (asked.opened.plan.assignments.count + asked.opened.plan.expenses.count) as usize;
     charged_rows(
@@ -120,9 +101,9 @@ pub fn few_rows(book: &[u8], asked: Asked, schedule: &[u64], out: &mut [u64]) ->
 {
     let charges = asked.opened.plan.assignments.count + asked.opened.plan.expenses.count;
     if are_within(48, 6, charges, asked.opened.plan.resources.count) {
-        return fewest_rows(book, asked, schedule, out);
+        return sized_rows::<492, 96, 144>(book, asked, schedule, out);
     }
-    some_rows(book, asked, schedule, out)
+    sized_rows::<1968, 512, 768>(book, asked, schedule, out)
 }
 
 // The rows, for as many as a book may have.
@@ -130,18 +111,5 @@ pub fn many_rows(book: &[u8], asked: Asked, schedule: &[u64], out: &mut [u64]) -
     requires { IsAsked book.now asked schedule.now }
     ensures { Writes asked.grain (spending_between (content book.now) asked.from asked.to) out.old result out.new }
 {
-    let mut rates = [0u64; 16400];
-    let mut links = [0u64; 6000];
-    let mut units = [0i64; 9000];
-    let r = asked.opened.plan.resources.count as usize;
-    let n = (asked.opened.plan.assignments.count + asked.opened.plan.expenses.count) as usize;
-    charged_rows(
-        book,
-        asked,
-        schedule,
-        &mut rates[..r * RATE_WIDTH],
-        &mut links[..n * 2],
-        &mut units[..n * 3],
-        out,
-    )
+    sized_rows::<16400, 6000, 9000>(book, asked, schedule, out)
 }

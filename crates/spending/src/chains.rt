@@ -7,15 +7,11 @@ pub fn chain(links: &mut [u64]) -> [u64; 500]
 {
     let n = links.len() / 2;
     let mut heads = [0u64; 500];
-    let mut left: usize = 0;
-    while left < n {
-        left += 1;
-        let at = (n - left) * 2;
-        let account = links[at];
+    for k in (0..n).rev() {
+        let account = links[k * 2];
         if account < 500 {
-            links[at] = heads[account as usize];
-            heads[account as usize] = left as u64;
-            continue;
+            links[k * 2] = heads[account as usize];
+            heads[account as usize] = (n - k) as u64;
         }
     }
     heads

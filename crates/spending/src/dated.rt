@@ -3,7 +3,7 @@ ghost use Rattle.std.specs.Prelude.{◌*◌, ◌≤◌, length};
 ghost use Rattle.format.specs.Verdict.{content};
 ghost use Rattle.model.specs.Costs.{spending_between};
 ghost use Rattle.bydate.specs.Pointed.{points_in, Reaches};
-ghost use Rattle.bydate.specs.Sizes.{dates_of, FitsSmall, IsEmpty};
+ghost use Rattle.bydate.specs.Sizes.{dates_of, IsEmpty};
 ghost use Rattle.spending.specs.Asking.{IsAsked, IsCharged};
 ghost use Rattle.spending.specs.Grained.{Writes};
 
@@ -76,8 +76,8 @@ fn rows_in(
     write_rows(asked, table, out)
 }
 
-// The rows of a stretch of at most 256 dates.
-fn short_rows(
+// The same, with tables of its own.
+fn sized_rows<const DAYS: usize, const TABLE: usize>(
     book: &[u8],
     asked: Asked,
     schedule: &[u64],
@@ -89,79 +89,14 @@ fn short_rows(
 ) -> Reply
     requires asked { IsAsked book.now asked schedule.now }
     requires charged { IsCharged book.now asked rates.now links.now units.now heads.now }
-    requires known_bound { dates_of asked.known ≤ 256 }
+    requires room { (asked.opened.plan.calendars.count * dates_of asked.known ≤ DAYS) × (dates_of asked.known * 2 ≤ TABLE) }
+    requires most { (DAYS ≤ 584400) × (TABLE ≤ 73050) }
     ensures { Writes asked.grain (spending_between (content book.now) asked.from asked.to) out.old result out.new }
 {
-    let mut days = [0u8; 4096];
-    let mut table = [0u64; 512];
+    let mut days = [0u8; DAYS];
+    let mut table = [0u64; TABLE];
     rows_in(
         book, asked, schedule, rates, links, units, heads, &mut days, &mut table, out,
-    )
-}
-
-// The rows, by small tables.
-fn small_rows(
-    book: &[u8],
-    asked: Asked,
-    schedule: &[u64],
-    rates: &[u64],
-    links: &[u64],
-    units: &[i64],
-    heads: &[u64; 500],
-    out: &mut [u64],
-) -> Reply
-    requires asked { IsAsked book.now asked schedule.now }
-    requires charged { IsCharged book.now asked rates.now links.now units.now heads.now }
-    requires fits_small { FitsSmall asked.opened.plan.calendars.count asked.known }
-    ensures { Writes asked.grain (spending_between (content book.now) asked.from asked.to) out.old result out.new }
-{
-    let mut days = [0u8; 8192];
-    let mut table = [0u64; 4096];
-    rows_in(
-        book, asked, schedule, rates, links, units, heads, &mut days, &mut table, out,
-    )
-}
-
-// The rows, by a table for all dates of a book.
-fn full_table(
-    book: &[u8],
-    asked: Asked,
-    schedule: &[u64],
-    rates: &[u64],
-    links: &[u64],
-    units: &[i64],
-    heads: &[u64; 500],
-    days: &mut [u8; 584400],
-    out: &mut [u64],
-) -> Reply
-    requires asked { IsAsked book.now asked schedule.now }
-    requires charged { IsCharged book.now asked rates.now links.now units.now heads.now }
-    ensures { Writes asked.grain (spending_between (content book.now) asked.from asked.to) out.old result out.new }
-{
-    let mut table = [0u64; 73050];
-    rows_in(
-        book, asked, schedule, rates, links, units, heads, days, &mut table, out,
-    )
-}
-
-// The same, with room for the days of as many calendars as a book may have.
-fn full_rows(
-    book: &[u8],
-    asked: Asked,
-    schedule: &[u64],
-    rates: &[u64],
-    links: &[u64],
-    units: &[i64],
-    heads: &[u64; 500],
-    out: &mut [u64],
-) -> Reply
-    requires asked { IsAsked book.now asked schedule.now }
-    requires charged { IsCharged book.now asked rates.now links.now units.now heads.now }
-    ensures { Writes asked.grain (spending_between (content book.now) asked.from asked.to) out.old result out.new }
-{
-    let mut days = [0u8; 584400];
-    full_table(
-        book, asked, schedule, rates, links, units, heads, &mut days, out,
     )
 }
 
@@ -181,10 +116,10 @@ pub fn dated_rows(
     ensures { Writes asked.grain (spending_between (content book.now) asked.from asked.to) out.old result out.new }
 {
     if asked.known.to < asked.known.from + 256 {
-        return short_rows(book, asked, schedule, rates, links, units, heads, out);
+        return sized_rows::<4096, 512>(book, asked, schedule, rates, links, units, heads, out);
     }
     if fits_small(asked.opened.plan.calendars.count, asked.known) {
-        return small_rows(book, asked, schedule, rates, links, units, heads, out);
+        return sized_rows::<8192, 4096>(book, asked, schedule, rates, links, units, heads, out);
     }
-    full_rows(book, asked, schedule, rates, links, units, heads, out)
+    sized_rows::<584400, 73050>(book, asked, schedule, rates, links, units, heads, out)
 }

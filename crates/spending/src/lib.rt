@@ -9,7 +9,7 @@ pub mod dated;
 pub mod expenses;
 pub mod units;
 
-ghost use Rattle.std.specs.Prelude.{◌≡◌, ◌*◌, length};
+ghost use Rattle.std.specs.Prelude.{◌≡◌, ◌*◌, ◌≤◌, length};
 ghost use Rattle.format.specs.Verdict.{content};
 ghost use Rattle.model.specs.Costs.{spending_between};
 ghost use Rattle.activities.specs.Schedule.{schedule_of};
@@ -82,6 +82,24 @@ fn scheduled_rows(
     rows_by(book, opened, grain, between, schedule, out)
 }
 
+// The same, with an array for the schedule.
+fn sized_rows<const SCHEDULE: usize>(
+    book: &[u8],
+    opened: Opened,
+    grain: Grain,
+    between: Stretch,
+    out: &mut [u64],
+) -> Reply
+    requires opened { IsOpened book.now opened }
+    requires room { opened.plan.activities.count * 13 ≤ SCHEDULE }
+    requires most { SCHEDULE ≤ 6500 }
+    ensures { Writes grain (spending_between (content book.now) between.from between.to) out.old result out.new }
+{
+    let mut schedule = [0u64; SCHEDULE];
+    let n = opened.plan.activities.count as usize * SCHEDULE_WIDTH;
+    scheduled_rows(book, opened, grain, between, &mut schedule[..n], out)
+}
+
 // The rows between two dates; none without activities.
 fn rows_of(book: &[u8], opened: Opened, grain: Grain, between: Stretch, out: &mut [u64]) -> Reply
     requires { IsOpened book.now opened }
@@ -90,13 +108,10 @@ fn rows_of(book: &[u8], opened: Opened, grain: Grain, between: Stretch, out: &mu
     if opened.plan.activities.count == 0 {
         return Reply::Accepted(0);
     }
-    let n = opened.plan.activities.count as usize * SCHEDULE_WIDTH;
     if opened.plan.activities.count <= FEW as u64 {
-        let mut schedule = [0u64; 416];
-        return scheduled_rows(book, opened, grain, between, &mut schedule[..n], out);
+        return sized_rows::<416>(book, opened, grain, between, out);
     }
-    let mut schedule = [0u64; 6500];
-    scheduled_rows(book, opened, grain, between, &mut schedule[..n], out)
+    sized_rows::<6500>(book, opened, grain, between, out)
 }
 
 // The points of the spending between two dates, both included.

@@ -9,7 +9,6 @@ use Rattle.activities.proofs.Scheduling.{schedule_long_lem, schedule_spans}
 use Rattle.spending.specs.Asking.{IsAsked}
 use Rattle.spending.proofs.Written.{writes_same, writes_none}
 use Rattle.spending.proofs.Asking.{planned_dated, planned_covers, spending_narrow, spending_none}
-use borrow.Author.Rules.{rules}
 use Rattle.spending.proofs.rows_by.Goals as goal
 use Rattle.spending.proofs.rows_by.Goals.{Else-asked}
 

@@ -1,6 +1,5 @@
 -- `spending_by_month_of` meets its contract: all the points, by month.
 use mathlib.Core.Path.{refl}
-use borrow.Author.Rules.{rules}
 use Rattle.format.specs.Verdict.{content}
 use Rattle.format.proofs.Theorems.{content_in_range}
 use Rattle.answers.proofs.Replies.{if_puts}

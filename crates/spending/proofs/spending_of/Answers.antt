@@ -1,6 +1,5 @@
 -- `spending_of` meets its contract: the points by day.
 use mathlib.Core.Path.{refl}
-use borrow.Author.Rules.{rules}
 use Rattle.answers.specs.Rows.{spending_rows}
 use Rattle.answers.proofs.Replies.{if_puts}
 use Rattle.spending.specs.Grained.{rows_by, are_held}

@@ -1,5 +1,4 @@
 -- `twelve_months_of` meets its contract: all the points, by twelve months.
-use borrow.Author.Rules.{rules}
 use Rattle.model.specs.TwelveMonths.{spending_months, twelve_months}
 use Rattle.answers.specs.Rows.{twelve_months_rows}
 use Rattle.spending.specs.Grained.{rows_by, are_held}

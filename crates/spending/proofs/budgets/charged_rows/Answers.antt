@@ -1,6 +1,5 @@
 -- `charged_rows` meets its contract: the tables are filled, and the charges are chained.
 use Rattle.spending.proofs.Asking.{asked_charged}
-use borrow.Author.Rules.{rules}
 use Rattle.spending.proofs.budgets.charged_rows.Goals as goal
 
 pub dated_rows-requires : goal.dated_rows-requires

@@ -7,7 +7,6 @@ use lib.Seq.{length-take-le}
 use Rattle.book.proofs.Plan.{assignments_count}
 use Rattle.charges.proofs.Assigning.{links_length, units_length}
 use Rattle.spending.proofs.Parted.{second_long, tables_are}
-use borrow.Author.Rules.{rules}
 use Rattle.spending.proofs.budgets.fill_charges.Goals as goal
 
 pub slice_bounds-fill_assigned-end-2 : goal.slice_bounds-fill_assigned-end-2

@@ -4,7 +4,6 @@ use Rattle.format.specs.Verdict.{content}
 use Rattle.model.specs.Costs.{budget_by_day}
 use Rattle.laid.specs.Laid.{Laid}
 use Rattle.spending.proofs.Asking.{asked_calendars, asked_ready, asked_laid, asked_reach, asked_rows}
-use borrow.Author.Rules.{rules}
 use Rattle.spending.proofs.dated.rows_in.Goals as goal
 use Rattle.spending.proofs.dated.rows_in.Goals.{After-lay_activities}
 

@@ -3,7 +3,6 @@ use mathlib.Core.Path.{refl}
 use mathlib.Core.List.{List}
 use Rattle.model.specs.Amounts.{Dated}
 use Rattle.bydate.specs.Pointed.{points_in}
-use borrow.Author.Rules.{rules}
 use Rattle.answers.proofs.Replies.{puts_if}
 use Rattle.spending.specs.Grained.{rows_by, are_held}
 use Rattle.spending.proofs.Written.{told}

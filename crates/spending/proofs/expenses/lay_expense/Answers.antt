@@ -10,7 +10,6 @@ use Rattle.laid.specs.Listed.{worked_in, listed_in}
 use Rattle.laid.proofs.Laying.{laid_same}
 use Rattle.laid.proofs.Dealing.{listed_some}
 use Rattle.spending.proofs.Pricing.{accrued_start, accrued_end}
-use borrow.Author.Rules.{rules}
 use Rattle.spending.proofs.expenses.lay_expense.Goals as goal
 
 pub returns-in-Start : goal.returns-in-Start
