@@ -4,3 +4,4 @@ pub mod Dating
 pub mod Reaching
 pub mod Settling
 pub mod Varying
+pub mod Cleared

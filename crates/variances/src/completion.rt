@@ -54,9 +54,7 @@ pub fn settle_rows(schedule: &[u64], costs: &[i64], out: &mut [u64])
     ensures { out.new ≡ all_rows (settled schedule.now costs.now) out.old }
 {
     let n = out.len() / 5;
-    let mut i = 0;
-    while i < n {
+    for i in 0..n {
         settle_row(i, schedule, costs, out);
-        i += 1;
     }
 }

@@ -86,10 +86,8 @@ fn count_rows(number: u64, reach: Stretch, schedule: &[u64], counts: &[u64], out
     ensures { out.new ≡ all_rows (dated_under (counted_between reach.from counts.now) schedule.now number) out.old }
 {
     let n = out.len() / 5;
-    let mut i = 0;
-    while i < n {
+    for i in 0..n {
         count_row(i, number, reach, schedule, counts, out);
-        i += 1;
     }
 }
 
@@ -99,12 +97,10 @@ fn is_used(number: u64, schedule: &[u64], out: &[u64]) -> bool
     ensures { result ≡ false → (i : ℕ) → i < length out.now / 5 → is_under schedule.now number i (row_of 5 out.now i) ≡ false }
 {
     let n = out.len() / 5;
-    let mut i = 0;
-    while i < n {
+    for i in 0..n {
         if is_under(i, number, schedule, out) {
             return true;
         }
-        i += 1;
     }
     false
 }
@@ -151,11 +147,9 @@ pub fn count_calendars(
 {
     let count = list.count;
     let mut next = list.first;
-    let mut k: u64 = 0;
-    while k < count {
+    for k in 0..count {
         let calendar = read_calendar(book, next);
         next = calendar.next;
         count_calendar(book, calendar, k, reach, schedule, days, counts, out);
-        k += 1;
     }
 }

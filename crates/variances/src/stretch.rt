@@ -1,5 +1,5 @@
 // The stretch of dates that the working days are counted over, and the tables for it.
-ghost use Rattle.std.specs.Prelude.{ℕ, ◌+◌, ◌*◌, ◌/◌, ◌<◌, ◌≡◌, true, length};
+ghost use Rattle.std.specs.Prelude.{ℕ, ◌+◌, ◌-◌, ◌*◌, ◌/◌, ◌≤◌, ◌<◌, ◌≡◌, true, length};
 ghost use Rattle.format.specs.InRange.{Every, CalendarInRange};
 ghost use Rattle.format.specs.Format as layout;
 ghost use Rattle.sections.specs.Sections.{alike_in};
@@ -34,10 +34,8 @@ fn reach(known: Stretch, table: &[u64], n: usize, width: usize, at: usize) -> St
     ensures { Takes known table.now n width at result }
 {
     let mut wide = known;
-    let mut i = 0;
-    while i < n {
+    for i in 0..n {
         wide = widen(wide, table[i * width + at]);
-        i += 1;
     }
     wide
 }
@@ -60,45 +58,25 @@ fn reach_all(schedule: &[u64], out: &[u64]) -> Stretch
     reach(begun, out, n, LINE_WIDTH, FINISH)
 }
 
-// Over a stretch of at most 256 dates.
-fn count_short(book: &[u8], list: Section, stretch: Stretch, schedule: &[u64], out: &mut [u64])
-    requires every { Every CalendarInRange (alike_in layout.calendar book.now list) }
-    requires tables { Tables schedule.now out.old }
-    requires by_index { (i : ℕ) → i < length out.old / 5 → entry_at schedule.now i 1 < list.count }
-    requires by_index_2 { (i : ℕ) → i < length out.old / 5 → has_line (row_of 5 out.old i) ≡ true → Reaches stretch schedule.now i (row_of 5 out.old i) }
-    requires bounded { Bounded stretch × (stretch.to < stretch.from + 256) }
-    ensures { out.new ≡ all_rows (dated_by (alike_in layout.calendar book.now list) schedule.now) out.old }
-{
-    let mut days = [0u8; 256];
-    let mut counts = [0u64; 257];
-    count_calendars(book, list, stretch, schedule, &mut days, &mut counts, out);
-}
-
-// Over a stretch of at most 2,048 dates.
-fn count_medium(book: &[u8], list: Section, stretch: Stretch, schedule: &[u64], out: &mut [u64])
-    requires every { Every CalendarInRange (alike_in layout.calendar book.now list) }
-    requires tables { Tables schedule.now out.old }
-    requires by_index { (i : ℕ) → i < length out.old / 5 → entry_at schedule.now i 1 < list.count }
-    requires by_index_2 { (i : ℕ) → i < length out.old / 5 → has_line (row_of 5 out.old i) ≡ true → Reaches stretch schedule.now i (row_of 5 out.old i) }
-    requires bounded { Bounded stretch × (stretch.to < stretch.from + 2048) }
-    ensures { out.new ≡ all_rows (dated_by (alike_in layout.calendar book.now list) schedule.now) out.old }
-{
-    let mut days = [0u8; 2048];
-    let mut counts = [0u64; 2049];
-    count_calendars(book, list, stretch, schedule, &mut days, &mut counts, out);
-}
-
-// Over any stretch of the book's dates.
-fn count_long(book: &[u8], list: Section, stretch: Stretch, schedule: &[u64], out: &mut [u64])
+// Over a stretch of dates, with tables of its own.
+fn count_sized<const DAYS: usize, const COUNTS: usize>(
+    book: &[u8],
+    list: Section,
+    stretch: Stretch,
+    schedule: &[u64],
+    out: &mut [u64],
+)
     requires every { Every CalendarInRange (alike_in layout.calendar book.now list) }
     requires tables { Tables schedule.now out.old }
     requires by_index { (i : ℕ) → i < length out.old / 5 → entry_at schedule.now i 1 < list.count }
     requires by_index_2 { (i : ℕ) → i < length out.old / 5 → has_line (row_of 5 out.old i) ≡ true → Reaches stretch schedule.now i (row_of 5 out.old i) }
     requires bounded { Bounded stretch }
+    requires room { (stretch.to + 1 - stretch.from ≤ DAYS) × (stretch.to + 1 - stretch.from < COUNTS) }
+    requires most { (DAYS ≤ 36525) × (COUNTS ≤ 36526) }
     ensures { out.new ≡ all_rows (dated_by (alike_in layout.calendar book.now list) schedule.now) out.old }
 {
-    let mut days = [0u8; 36525];
-    let mut counts = [0u64; 36526];
+    let mut days = [0u8; DAYS];
+    let mut counts = [0u64; COUNTS];
     count_calendars(book, list, stretch, schedule, &mut days, &mut counts, out);
 }
 
@@ -112,12 +90,12 @@ pub fn count_days(book: &[u8], list: Section, schedule: &[u64], out: &mut [u64])
 {
     let all = reach_all(schedule, out);
     if all.to < all.from + 256 {
-        count_short(book, list, all, schedule, out);
+        count_sized::<256, 257>(book, list, all, schedule, out);
         return;
     }
     if all.to < all.from + 2048 {
-        count_medium(book, list, all, schedule, out);
+        count_sized::<2048, 2049>(book, list, all, schedule, out);
         return;
     }
-    count_long(book, list, all, schedule, out);
+    count_sized::<36525, 36526>(book, list, all, schedule, out);
 }

@@ -1,5 +1,4 @@
 -- `duration` meets its contract: minutes are far below the sign bit.
-use borrow.Author.Rules.{rules}
 use native.Mathlib.Omega.{arith}
 use mathlib.Core.Path.{refl}
 use mir.Syntax.{w64}

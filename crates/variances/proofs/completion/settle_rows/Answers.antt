@@ -1,11 +1,8 @@
 -- `settle_rows` meets its contract: one activity a turn.
-use borrow.Author.Rules.{rules}
-use Prim.Native.Nat.{◌-◌}
 use native.Mathlib.Omega.{arith}
 use mathlib.Core.Path.{sym, ◌∙◌}
 use Rattle.flat.proofs.Cells.{row_inside}
-use Rattle.variances.specs.Completion.{settled}
-use Rattle.variances.proofs.Changing.{Changing, changing_none, changing_room, changing_cell, changing_more, changing_end}
+use Rattle.variances.proofs.Changing.{changing_none, changing_room, changing_cell, changing_more, changing_end}
 use Rattle.variances.proofs.completion.settle_rows.Goals as goal
 
 pub loop-i-init : goal.loop-i-init

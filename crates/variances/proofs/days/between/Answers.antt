@@ -6,7 +6,6 @@ use mir.Val.{to_z}
 use mir.Facts.{to_z-of_z, to_z_pos}
 use Rattle.integer.specs.Linear.{linear, dif, low}
 use Rattle.calendar.specs.Tables.{entry}
-use borrow.Author.Rules.{rules}
 use Rattle.variances.proofs.days.between.Goals as goal
 use Rattle.variances.proofs.days.between.Goals.{After-shared_slice_known-3-1}
 

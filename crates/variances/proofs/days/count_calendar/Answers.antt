@@ -1,5 +1,4 @@
 -- `count_calendar` meets its contract: the table counts the calendar's working dates.
-use borrow.Author.Rules.{rules}
 use native.Mathlib.Omega.{arith}
 use mathlib.Core.Path.{◌∙◌}
 use Rattle.sections.specs.Sections.{calendar_of}

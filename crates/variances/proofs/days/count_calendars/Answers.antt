@@ -1,17 +1,14 @@
 -- `count_calendars` meets its contract: one calendar a turn.
-use borrow.Author.Rules.{rules}
-use Prim.Native.Nat.{◌-◌}
 use native.Mathlib.Omega.{arith}
 use mathlib.Core.Path.{◌≡◌, refl, ◌∙◌, subst}
-use lib.ListN.{length, get_or}
-use Rattle.format.specs.Codec.{alike}
+use lib.ListN.{get_or}
 use Rattle.format.specs.Book.{Calendar}
 use Rattle.format.specs.Format.{calendar}
 use Rattle.format.specs.InRange.{CalendarInRange}
 use Rattle.sections.specs.Sections.{elements, alike_in, calendar_of}
 use Rattle.model.specs.Lookup.{no_calendar}
-use Rattle.calendar.proofs.Parts.{Reading, read_length, reading_none, reading_is, reading_more}
-use Rattle.variances.proofs.Dating.{Below, below_none, below_length, below_tables, below_reaches, below_more, below_all}
+use Rattle.calendar.proofs.Parts.{read_length, reading_none, reading_is, reading_more}
+use Rattle.variances.proofs.Dating.{below_none, below_length, below_tables, below_reaches, below_more, below_all}
 use Rattle.variances.proofs.days.count_calendars.Goals as goal
 use Rattle.variances.proofs.days.count_calendars.Goals.{After-read_calendar-calendar}
 
@@ -35,10 +32,6 @@ count_calendar-requires c =
       by_index = below_reaches loop.invariant.3 c.requires.by_index_2;
       bounded = (c.requires.bounded.0, record { days_room = omega (arith, c.requires.bounded.1.days_room, loop.invariant.1); counts_room = omega (arith, c.requires.bounded.1.counts_room, loop.invariant.2) });
     }
-
-pub overflow_add-k : goal.overflow_add-k
-overflow_add-k c =
-    omega (arith, c.loop-k-test.true, c.well_formed.1.0)
 
 pub loop-k-preserved : goal.loop-k-preserved
 unfolding elements

@@ -1,5 +1,4 @@
 -- `count_row` meets its contract: the two dates of the line.
-use borrow.Author.Rules.{rules}
 use native.Mathlib.Omega.{arith}
 use mathlib.Core.Path.{refl, sym, ◌∙◌}
 use lib.ListN.{length-set}

@@ -1,13 +1,12 @@
 -- `count_rows` meets its contract: one activity a turn.
-use borrow.Author.Rules.{rules}
-use Prim.Native.Nat.{ℕ, ◌-◌}
+use Prim.Native.Nat.{ℕ}
 use native.Mathlib.Omega.{arith}
 use mathlib.Core.Path.{◌≡◌, sym, ◌∙◌, subst}
 use mathlib.Core.Bool.{true}
 use mathlib.Core.List.{List}
 use Rattle.flat.proofs.Cells.{row_inside}
-use Rattle.variances.specs.Days.{is_under, dated_under, counted_between, Reaches}
-use Rattle.variances.proofs.Changing.{Changing, changing_none, changing_room, changing_more, changing_end}
+use Rattle.variances.specs.Days.{is_under, Reaches}
+use Rattle.variances.proofs.Changing.{changing_none, changing_room, changing_more, changing_end}
 use Rattle.variances.proofs.days.count_rows.Goals as goal
 
 pub loop-i-init : goal.loop-i-init

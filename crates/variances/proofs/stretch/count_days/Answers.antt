@@ -1,5 +1,4 @@
 -- `count_days` meets its contract: with the tables that have room.
-use borrow.Author.Rules.{rules}
 use native.Mathlib.Omega.{arith}
 use Rattle.variances.proofs.stretch.count_days.Goals as goal
 
@@ -9,20 +8,20 @@ overflow_add-all c = omega (arith, c.reach_all-all.ensures.bounded.latest)
 pub overflow_add-all-2 : goal.overflow_add-all-2
 overflow_add-all-2 c = omega (arith, c.reach_all-all.ensures.bounded.latest)
 
-pub count_short-requires : goal.count_short-requires
-count_short-requires c =
+pub count_sized-requires : goal.count_sized-requires
+count_sized-requires c =
     let s = c.requires in
     let all = c.reach_all-all.ensures in
-    record { every = s.every; tables = s.tables; by_index = s.by_index; by_index_2 = all.by_index; bounded = (all.bounded, c.if-all.true) }
+    record { every = s.every; tables = s.tables; by_index = s.by_index; by_index_2 = all.by_index; bounded = all.bounded; room = (omega (arith, c.if-all.true), omega (arith, c.if-all.true)); most = (omega arith, omega arith) }
 
-pub count_medium-requires : goal.count_medium-requires
-count_medium-requires c =
+pub count_sized-requires-then-all-2 : goal.count_sized-requires-then-all-2
+count_sized-requires-then-all-2 c =
     let s = c.requires in
     let all = c.reach_all-all.ensures in
-    record { every = s.every; tables = s.tables; by_index = s.by_index; by_index_2 = all.by_index; bounded = (all.bounded, c.if-all-2.true) }
+    record { every = s.every; tables = s.tables; by_index = s.by_index; by_index_2 = all.by_index; bounded = all.bounded; room = (omega (arith, c.if-all-2.true), omega (arith, c.if-all-2.true)); most = (omega arith, omega arith) }
 
-pub count_long-requires : goal.count_long-requires
-count_long-requires c =
+pub count_sized-requires-2 : goal.count_sized-requires-2
+count_sized-requires-2 c =
     let s = c.requires in
     let all = c.reach_all-all.ensures in
-    record { every = s.every; tables = s.tables; by_index = s.by_index; by_index_2 = all.by_index; bounded = all.bounded }
+    record { every = s.every; tables = s.tables; by_index = s.by_index; by_index_2 = all.by_index; bounded = all.bounded; room = (omega (arith, all.bounded.least, all.bounded.most), omega (arith, all.bounded.least, all.bounded.most)); most = (omega arith, omega arith) }

@@ -1,9 +1,6 @@
 -- `reach` meets its contract: one row a turn.
-use borrow.Author.Rules.{rules}
-use Prim.Native.Nat.{◌-◌}
 use native.Mathlib.Omega.{arith}
 use Rattle.flat.proofs.Cells.{row_inside}
-use Rattle.variances.specs.Days.{Takes}
 use Rattle.variances.proofs.Reaching.{takes_none, takes_more, takes_end}
 use Rattle.variances.proofs.stretch.reach.Goals as goal
 

@@ -1,5 +1,4 @@
 -- `reach_all` meets its contract: four times.
-use borrow.Author.Rules.{rules}
 use native.Mathlib.Omega.{arith}
 use Rattle.variances.proofs.Reaching.{early_dates, all_reached}
 use Rattle.variances.proofs.stretch.reach_all.Goals as goal

@@ -1,5 +1,4 @@
 -- `widen` meets its contract: by what is given.
-use borrow.Author.Rules.{rules}
 use mathlib.Core.Path.{ap₂, ◌∙◌}
 use Prim.Native.Nat.{ℕ}
 use Rattle.spans.specs.declared.Stretch.{Stretch}
