@@ -115,28 +115,21 @@ fn lines_in(
     Reply::Accepted(count)
 }
 
-// The same, with memory of its own.
-pub fn lines_of(book: &[u8], opened: Opened, out: &mut [u64]) -> Reply
-    requires { IsOpened book.now opened }
+// The same, with arrays of its own.
+fn sized_lines<const SCHEDULE: usize, const PARENTS: usize, const COSTS: usize>(
+    book: &[u8],
+    opened: Opened,
+    out: &mut [u64],
+) -> Reply
+    requires opened { IsOpened book.now opened }
+    requires room { (opened.plan.activities.count * 13 ≤ SCHEDULE) × (opened.plan.activities.count ≤ PARENTS) × (opened.plan.activities.count * 3 ≤ COSTS) }
+    requires most { (SCHEDULE ≤ 6500) × (PARENTS ≤ 500) × (COSTS ≤ 1500) }
     ensures { Puts (budget_rows (content book.now)) out.old result out.new }
 {
+    let mut schedule = [0u64; SCHEDULE];
+    let mut parents = [0u64; PARENTS];
+    let mut costs = [0i64; COSTS];
     let n = opened.plan.activities.count as usize;
-    if n <= FEW {
-        let mut schedule = [0u64; 416];
-        let mut parents = [0u64; 32];
-        let mut costs = [0i64; 96];
-        return lines_in(
-            book,
-            opened,
-            &mut schedule[..n * SCHEDULE_WIDTH],
-            &mut parents[..n],
-            &mut costs[..n * COST_WIDTH],
-            out,
-        );
-    }
-    let mut schedule = [0u64; 6500];
-    let mut parents = [0u64; 500];
-    let mut costs = [0i64; 1500];
     lines_in(
         book,
         opened,
@@ -145,4 +138,15 @@ pub fn lines_of(book: &[u8], opened: Opened, out: &mut [u64]) -> Reply
         &mut costs[..n * COST_WIDTH],
         out,
     )
+}
+
+// The same, with room for few activities or many.
+pub fn lines_of(book: &[u8], opened: Opened, out: &mut [u64]) -> Reply
+    requires { IsOpened book.now opened }
+    ensures { Puts (budget_rows (content book.now)) out.old result out.new }
+{
+    if opened.plan.activities.count <= FEW as u64 {
+        return sized_lines::<416, 32, 96>(book, opened, out);
+    }
+    sized_lines::<6500, 500, 1500>(book, opened, out)
 }

@@ -44,17 +44,13 @@ fn project_original(book: &[u8], list: Section, activities: u64, marks: &mut [u6
 {
     let count = list.count;
     let mut next = list.first;
-    let mut i: u64 = 0;
-    while i < count {
+    for _ in 0..count {
         let b = next_budget(book, next, activities, marks);
-        let account = b.activity;
-        if is_project(account) {
+        if is_project(b.activity) {
             return b.original;
         }
-        let k = account_number(account);
-        marks[k] = 1;
+        marks[account_number(b.activity)] = 1;
         next = b.next;
-        i += 1;
     }
     0
 }
@@ -63,10 +59,8 @@ fn project_original(book: &[u8], list: Section, activities: u64, marks: &mut [u6
 fn add_change(sum: i64, change: BudgetChange) -> i64
     ensures { result ≡ added_to none Approved sum (budget_change_of change) }
 {
-    let account = change.activity;
-    if is_project(account) {
-        let status = change.status;
-        if is_approved(status) {
+    if is_project(change.activity) {
+        if is_approved(change.status) {
             return saturating_add(sum, change.amount);
         }
     }
@@ -81,12 +75,10 @@ fn project_changes(book: &[u8], list: Section, activities: u64) -> i64
     let count = list.count;
     let mut next = list.first;
     let mut sum: i64 = 0;
-    let mut i: u64 = 0;
-    while i < count {
+    for _ in 0..count {
         let change = read_budget_change(book, next, activities);
         sum = add_change(sum, change);
         next = change.next;
-        i += 1;
     }
     sum
 }
