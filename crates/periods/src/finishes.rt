@@ -14,11 +14,9 @@ pub fn fill_finishes(book: &[u8], list: Section, out: &mut [u64])
 {
     let count = list.count;
     let mut next = list.first;
-    let mut i: u64 = 0;
-    while i < count {
+    for i in 0..count {
         let finish = date(book, next);
         out[i as usize] = finish.value;
         next = finish.next;
-        i += 1;
     }
 }

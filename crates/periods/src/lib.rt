@@ -1,7 +1,7 @@
 // The financial periods of a book, as rows.
 #![tactic(auto)]
 
-ghost use Rattle.std.specs.Prelude.{ℕ, ◌*◌, ◌≡◌, pos, length};
+ghost use Rattle.std.specs.Prelude.{ℕ, ◌*◌, ◌≤◌, ◌≡◌, pos, length};
 ghost use Rattle.format.specs.Verdict.{content};
 ghost use Rattle.tree.specs.Figures.{figure_of};
 ghost use Rattle.rows.specs.Rows.{numbers};
@@ -47,30 +47,22 @@ fn put_figures(
     put_points(finishes, planned, figures, out);
 }
 
-// With room for the tables: small ones for at most 24 periods.
-fn put_periods(book: &[u8], opened: Opened, out: &mut [u64])
+// With tables of its own.
+fn sized_periods<const PERIODS: usize, const FIGURES: usize>(
+    book: &[u8],
+    opened: Opened,
+    out: &mut [u64],
+)
     requires opened { IsOpened book.now opened }
+    requires room { (opened.ledger.periods.count ≤ PERIODS) × (opened.ledger.periods.count * 3 ≤ FIGURES) }
+    requires most { (PERIODS ≤ 240) × (FIGURES ≤ 720) }
     requires out_len { length out.old ≡ opened.ledger.periods.count * 7 }
     ensures { out.new ≡ numbers (period_points_rows (content book.now)) }
 {
+    let mut finishes = [0u64; PERIODS];
+    let mut planned = [0i64; PERIODS];
+    let mut figures = [0i64; FIGURES];
     let n = opened.ledger.periods.count as usize;
-    if n <= 24 {
-        let mut finishes = [0u64; 24];
-        let mut planned = [0i64; 24];
-        let mut figures = [0i64; 72];
-        put_figures(
-            book,
-            opened,
-            &mut finishes[..n],
-            &mut planned[..n],
-            &mut figures[..n * WIDTH],
-            out,
-        );
-        return;
-    }
-    let mut finishes = [0u64; 240];
-    let mut planned = [0i64; 240];
-    let mut figures = [0i64; 720];
     put_figures(
         book,
         opened,
@@ -79,6 +71,19 @@ fn put_periods(book: &[u8], opened: Opened, out: &mut [u64])
         &mut figures[..n * WIDTH],
         out,
     );
+}
+
+// The same: small tables for at most 24 periods.
+fn put_periods(book: &[u8], opened: Opened, out: &mut [u64])
+    requires opened { IsOpened book.now opened }
+    requires out_len { length out.old ≡ opened.ledger.periods.count * 7 }
+    ensures { out.new ≡ numbers (period_points_rows (content book.now)) }
+{
+    if opened.ledger.periods.count <= 24 {
+        sized_periods::<24, 72>(book, opened, out);
+        return;
+    }
+    sized_periods::<240, 720>(book, opened, out);
 }
 
 // A row for each financial period, where they fit; without periods nothing is read.

@@ -46,12 +46,10 @@ pub fn take_records(
     let count = list.count;
     let periods = finishes.len() as u64;
     let mut next = list.first;
-    let mut i: u64 = 0;
-    while i < count {
+    for _ in 0..count {
         let x = read_period_record(book, next, periods, activities);
         take_record(x, marks, finishes, figures);
         next = x.next;
-        i += 1;
     }
 }
 
@@ -86,10 +84,8 @@ pub fn put_points(finishes: &[u64], planned: &[i64], figures: &[i64], out: &mut 
     requires { (length planned.now ≡ length finishes.now) × (length figures.now ≡ length finishes.now * 3) × (length out.old ≡ length finishes.now * 7) }
     ensures { out.new ≡ flat_map (point_at finishes.now planned.now figures.now) (span 0 (length finishes.now)) }
 {
-    let mut p = 0;
-    while p < finishes.len() {
+    for p in 0..finishes.len() {
         let value = planned[p];
         put_point(p, finishes[p], value, figures, out);
-        p += 1;
     }
 }
