@@ -61,21 +61,9 @@ pub fn agrees(a: Answer, values: [u64; 16], given: usize, count: usize) -> bool 
     if !a.known {
         return false;
     }
-    let mine = a.values;
     let n = a.count;
-    if 4 < n {
+    if 4 < n || 12 < given || count != given + n {
         return false;
     }
-    if 12 < given {
-        return false;
-    }
-    if count != given + n {
-        return false;
-    }
-    for k in 0..4 {
-        if k < n && mine[k] != values[given + k] {
-            return false;
-        }
-    }
-    true
+    a.values[..n] == values[given..count]
 }

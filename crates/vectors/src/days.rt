@@ -7,26 +7,16 @@ use money::words::{from_bits, to_bits};
 
 // A number of 32 bits, signed; 0 for one that has more.
 fn signed(u: u64) -> i32 {
-    let z = from_bits(u);
-    if z < -2147483648 {
-        return 0;
-    }
-    if 2147483647 < z {
-        return 0;
-    }
-    z as i32
+    i32::try_from(from_bits(u)).unwrap_or(0)
 }
 
 // A number of 32 bits; 0 for one that has more.
 fn unsigned(u: u64) -> u32 {
-    if 4294967295 < u {
-        return 0;
-    }
-    u as u32
+    u32::try_from(u).unwrap_or(0)
 }
 
 fn bits(z: i32) -> u64 {
-    to_bits(z as i64)
+    to_bits(i64::from(z))
 }
 
 fn day(d: Option<i32>) -> Answer {
@@ -51,10 +41,7 @@ fn weekday(w: Option<Weekday>) -> Answer {
 }
 
 fn holiday(days: i32) -> Answer {
-    if holidays::is_holiday(days) {
-        return one(1);
-    }
-    one(0)
+    one(u64::from(holidays::is_holiday(days)))
 }
 
 pub fn answer(name: &[u8], x: [u64; 16]) -> Answer {

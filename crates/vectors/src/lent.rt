@@ -1,5 +1,4 @@
 // What a call is asked, and what it leaves in lent memory, as a line says it: `ASKED.. LENT = NUMBER AT NUMBER..`.
-use crate::text::Found;
 use crate::{line, text};
 
 // The most numbers that a line lends.
@@ -53,59 +52,41 @@ pub fn read_asked(s: &[u8], from: usize) -> Asked {
 // Number k of lent memory before the call is (k + 1) × 1,000,003.
 pub fn lend(out: &mut [u64]) {
     let mut value: u64 = 0;
-    let mut k: usize = 0;
-    while k < out.len() {
-        value = std::num::wrapping_add_u64(value, 1000003);
-        out[k] = value;
-        k += 1;
+    for number in out.iter_mut() {
+        value = value.wrapping_add(1000003);
+        *number = value;
     }
 }
 
-// Where a line goes on after a number, if it stands at `at`; else nothing.
-fn after(line: &[u8], at: usize, value: u64) -> Found {
+// Where a line goes on after a number, if it stands at `at`.
+fn after(line: &[u8], at: usize, value: u64) -> Option<usize> {
     let from = text::past_blanks(line, at);
-    match text::number(line, from) {
-        Found::Number { value: read, next } => {
-            if read == value {
-                return Found::Number {
-                    value: read,
-                    next: next,
-                };
-            }
-            Found::Nothing
-        }
-        Found::Nothing => Found::Nothing,
+    let read = text::number(line, from)?;
+    if read.value != value {
+        return None;
     }
+    Some(read.next)
 }
 
 // Whether the line has these numbers from `at` on, and nothing else.
 fn lists(line: &[u8], at: usize, numbers: &[u64]) -> bool {
     let mut from = at;
-    let mut k: usize = 0;
-    while k < numbers.len() {
-        match after(line, from, numbers[k]) {
-            Found::Number { value: _, next } => {
-                from = next;
-            }
-            Found::Nothing => {
-                return false;
-            }
+    for &number in numbers {
+        match after(line, from, number) {
+            Some(next) => from = next,
+            None => return false,
         }
-        k += 1;
     }
     from == line.len()
 }
 
 // Whether the line says, from `at` on, the number and the count or place that were returned, and what lent memory holds.
 pub fn says(line: &[u8], at: usize, number: u64, place: u64, numbers: &[u64]) -> bool {
-    match after(line, at, number) {
-        Found::Number { value: _, next } => match after(line, next, place) {
-            Found::Number {
-                value: _,
-                next: rest,
-            } => lists(line, rest, numbers),
-            Found::Nothing => false,
-        },
-        Found::Nothing => false,
+    let Some(next) = after(line, at, number) else {
+        return false;
+    };
+    match after(line, next, place) {
+        Some(rest) => lists(line, rest, numbers),
+        None => false,
     }
 }

@@ -1,6 +1,5 @@
 // A vector: a line with a function's name, its arguments, the sign `=` and the numbers that the function must give.
 use crate::answer::{Answer, agrees};
-use crate::text::Found;
 
 // How many numbers a line has at the most.
 pub const ROOM: usize = 16;
@@ -48,8 +47,8 @@ fn step(s: &[u8], line: Line) -> Line {
         }
     }
     match crate::text::number(s, at) {
-        Found::Number { value, next } => with_number(line, value, next),
-        Found::Nothing => line,
+        Some(number) => with_number(line, number.value, number.next),
+        None => line,
     }
 }
 
@@ -72,6 +71,5 @@ pub fn says(s: &[u8], line: Line, a: Answer) -> bool {
     if line.at != s.len() {
         return false;
     }
-    let values = line.values;
-    agrees(a, values, line.given, line.count)
+    agrees(a, line.values, line.given, line.count)
 }
