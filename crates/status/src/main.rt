@@ -12,13 +12,11 @@ fn main() {
     let mut space = [0u8; 60001];
     let n = io::read_full(IN, &mut space);
     let mut text = page_buffer();
-    let mut page: u64 = 0;
-    while page < PAGES {
+    for page in 0..PAGES {
         let end = put_page(&space[..n], page, &mut text);
         // Where a write fails the text ends: nothing is written behind a gap.
         if !io::write_all(OUT, &text[..end]) {
             return;
         }
-        page += 1;
     }
 }
