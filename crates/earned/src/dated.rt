@@ -5,7 +5,7 @@ ghost use Rattle.format.specs.Verdict.{content};
 ghost use Rattle.tree.specs.Tables.{own_values};
 ghost use Rattle.answers.specs.Opened.{IsOpened};
 ghost use Rattle.baseline.specs.Listed.{listed_of, budgets_of};
-ghost use Rattle.bydate.specs.Sizes.{dates_of, FitsSmall};
+ghost use Rattle.bydate.specs.Sizes.{dates_of};
 ghost use Rattle.planned.specs.Tabled.{AreTabled};
 ghost use Rattle.planned.specs.Reached.{IsReach, AreDays};
 ghost use Rattle.earned.specs.Measured.{Measured};
@@ -34,11 +34,9 @@ fn put_planned(
     ensures { (book : Book) → AreDays book known listed.now budgets.now days.now → Measured book out.old → out.new ≡ own_values book date }
 {
     let width = known.to + 1 - known.from;
-    let mut i = 0;
-    while i < budgets.len() {
+    for i in 0..budgets.len() {
         let figure = planned_at(date, known.from, width, days, listed, budgets, i);
         out[i * VALUE_WIDTH + 1] = figure;
-        i += 1;
     }
 }
 
@@ -68,8 +66,8 @@ fn date_by(
     put_planned(date, known, days, listed, budgets, out);
 }
 
-// With a small table.
-fn date_small(
+// With a table of its own.
+fn date_sized<const DAYS: usize>(
     book: &[u8],
     reach: Reach,
     date: u64,
@@ -78,39 +76,13 @@ fn date_small(
     out: &mut [i64],
 )
     requires reach { IsReach book.now reach listed.now budgets.now }
-    requires fits_small { FitsSmall reach.calendars.count reach.known }
+    requires room { reach.calendars.count * dates_of reach.known ≤ DAYS }
+    requires most { DAYS ≤ 584400 }
     requires measured { Measured (content book.now) out.old }
     ensures { out.new ≡ own_values (content book.now) date }
 {
-    let mut days = [0u8; 8192];
+    let mut days = [0u8; DAYS];
     date_by(book, reach, date, listed, budgets, &mut days, out);
-}
-
-// With a table for all dates of a book and as many calendars as it may have.
-fn date_large(
-    book: &[u8],
-    reach: Reach,
-    date: u64,
-    listed: &[u64],
-    budgets: &[i64],
-    days: &mut [u8; 584400],
-    out: &mut [i64],
-)
-    requires reach { IsReach book.now reach listed.now budgets.now }
-    requires measured { Measured (content book.now) out.old }
-    ensures { out.new ≡ own_values (content book.now) date }
-{
-    date_by(book, reach, date, listed, budgets, days, out);
-}
-
-// The same, which owns it.
-fn date_full(book: &[u8], reach: Reach, date: u64, listed: &[u64], budgets: &[i64], out: &mut [i64])
-    requires reach { IsReach book.now reach listed.now budgets.now }
-    requires measured { Measured (content book.now) out.old }
-    ensures { out.new ≡ own_values (content book.now) date }
-{
-    let mut days = [0u8; 584400];
-    date_large(book, reach, date, listed, budgets, &mut days, out);
 }
 
 // Of any book.
@@ -120,10 +92,10 @@ fn date_any(book: &[u8], reach: Reach, date: u64, listed: &[u64], budgets: &[i64
     ensures { out.new ≡ own_values (content book.now) date }
 {
     if fits_small(reach.calendars.count, reach.known) {
-        date_small(book, reach, date, listed, budgets, out);
+        date_sized::<8192>(book, reach, date, listed, budgets, out);
         return;
     }
-    date_full(book, reach, date, listed, budgets, out);
+    date_sized::<584400>(book, reach, date, listed, budgets, out);
 }
 
 // From the listed spans and the budgets; `out` has the other figures, and any planned value. A book of few activities over a short stretch does not enter the function that holds the large table.
@@ -146,7 +118,7 @@ pub fn date_values(
         return;
     }
     if fits_small(reach.calendars.count, reach.known) {
-        date_small(book, reach, date, listed, budgets, out);
+        date_sized::<8192>(book, reach, date, listed, budgets, out);
         return;
     }
     date_any(book, reach, date, listed, budgets, out);

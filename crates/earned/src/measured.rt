@@ -80,14 +80,12 @@ fn measure_rows(
     ensures { (book : Book) → InRange book → book.technique ≡ technique → schedule.now ≡ schedule_of book → AreUnits book technique units.now → costs.now ≡ own_costs book → budgets.now ≡ budgets_of book → out.new ≡ measured_of book }
 {
     let parents = parent_marks(schedule);
-    let mut i = 0;
-    while i < budgets.len() {
+    for i in 0..budgets.len() {
         let budget = budgets[i];
         let value = leaf_earned(parents[i], technique, schedule, units, budget, i);
         let actual = leaf_cost(parents[i], costs, i * COST_WIDTH + 1);
         let remaining = leaf_cost(parents[i], costs, i * COST_WIDTH + 2);
         put_row(i * VALUE_WIDTH, budget, value, actual, remaining, out);
-        i += 1;
     }
 }
 
@@ -112,6 +110,35 @@ fn measure_by(
     measure_rows(technique, schedule, units, costs, budgets, out);
 }
 
+// With a table of its own.
+fn measure_sized<const UNITS: usize>(
+    book: &[u8],
+    opened: Opened,
+    schedule: &[u64],
+    costs: &[i64],
+    budgets: &[i64],
+    out: &mut [i64],
+)
+    requires opened { IsOpened book.now opened }
+    requires schedule_value { (schedule.now ≡ schedule_of (content book.now)) × (costs.now ≡ own_costs (content book.now)) × (budgets.now ≡ budgets_of (content book.now)) }
+    requires room { length budgets.now * 2 ≤ UNITS }
+    requires most { UNITS ≤ 1000 }
+    requires out_len { length out.old ≡ opened.plan.activities.count * 5 }
+    ensures { out.new ≡ measured_of (content book.now) }
+{
+    let mut units = [0i64; UNITS];
+    let n = budgets.len();
+    measure_by(
+        book,
+        opened,
+        schedule,
+        costs,
+        budgets,
+        &mut units[..n * 2],
+        out,
+    );
+}
+
 // From the schedule, the own costs and the budgets. A small table for few activities.
 pub fn measure(
     book: &[u8],
@@ -126,28 +153,9 @@ pub fn measure(
     requires out_len { length out.old ≡ opened.plan.activities.count * 5 }
     ensures { out.new ≡ measured_of (content book.now) }
 {
-    let n = budgets.len();
-    if n <= FEW {
-        let mut units = [0i64; 64];
-        measure_by(
-            book,
-            opened,
-            schedule,
-            costs,
-            budgets,
-            &mut units[..n * 2],
-            out,
-        );
+    if budgets.len() <= FEW {
+        measure_sized::<64>(book, opened, schedule, costs, budgets, out);
         return;
     }
-    let mut units = [0i64; 1000];
-    measure_by(
-        book,
-        opened,
-        schedule,
-        costs,
-        budgets,
-        &mut units[..n * 2],
-        out,
-    );
+    measure_sized::<1000>(book, opened, schedule, costs, budgets, out);
 }

@@ -18,14 +18,7 @@ use sections::Section;
 fn counts_units(technique: EvTechnique) -> bool
     ensures { result ≡ units.is_units technique }
 {
-    match technique {
-        EvTechnique::Physical => false,
-        EvTechnique::Duration => false,
-        EvTechnique::Units => true,
-        EvTechnique::ZeroHundred => false,
-        EvTechnique::FiftyFifty => false,
-        EvTechnique::Custom(_) => false,
-    }
+    matches!(technique, EvTechnique::Units)
 }
 
 // An assignment's units are added to those of its activity.
@@ -49,12 +42,10 @@ fn add_assignments(book: &[u8], list: Section, activities: u64, resources: u64, 
 {
     let count = list.count;
     let mut next = list.first;
-    let mut i: u64 = 0;
-    while i < count {
+    for _ in 0..count {
         let x = read_assignment(book, next, activities, resources);
         add_units(x, out);
         next = x.next;
-        i += 1;
     }
 }
 

@@ -1,13 +1,10 @@
 -- `put_planned` meets its contract: one figure a turn.
-use Prim.Native.Nat.{◌-◌}
 use native.Mathlib.Omega.{arith}
 use mathlib.Core.Path.{◌∙◌}
-use lib.ListN.{length}
 use mir.Syntax.{w64}
 use Rattle.integer.specs.Linear.{back}
-use Rattle.planned.specs.Values.{planned_at}
 use Rattle.planned.proofs.Settling.{one_planned}
-use Rattle.earned.proofs.Dating.{Putting, putting_none, putting_more, putting_end}
+use Rattle.earned.proofs.Dating.{putting_none, putting_more, putting_end}
 use Rattle.earned.proofs.dated.put_planned.Goals as goal
 
 pub loop-i-init : goal.loop-i-init
@@ -44,9 +41,3 @@ offset_bounds-out-i c = omega (arith, c.loop-i-test.true, c.requires.are_tabled.
 
 pub bounds-out-i : goal.bounds-out-i
 bounds-out-i c = omega (arith, c.loop-i-test.true, c.loop-i.invariant.long, c.requires.out_len)
-
-pub overflow_add-i : goal.overflow_add-i
-overflow_add-i c = omega arith
-
-pub loop-i-smaller : goal.loop-i-smaller
-loop-i-smaller c = omega arith

@@ -1,20 +1,18 @@
 -- `measure_rows` meets its contract: one row a turn.
-use Prim.Native.Nat.{◌+◌, ◌*◌, ◌-◌}
+use Prim.Native.Nat.{◌+◌, ◌*◌}
 use native.Mathlib.Omega.{arith}
-use mathlib.Core.Path.{◌≡◌, refl, ap, sym, ◌∙◌}
+use mathlib.Core.Path.{refl, ap, sym, ◌∙◌}
 use lib.IntN.{ℤ}
 use lib.ListN.{length, get_or}
 use mir.Syntax.{w64}
 use Rattle.integer.specs.Linear.{back}
 use Rattle.floats.specs.Figures.{earned_of}
-use Rattle.lists.specs.Lists.{span}
-use Rattle.flat.proofs.Written.{Written}
 use Rattle.tree.specs.Figures.{figure_of}
 use Rattle.flat.proofs.Spans.{rows_none, rows_more, rows_end}
 use Rattle.activities.proofs.Scheduling.{schedule_length}
 use Rattle.baseline.specs.Listed.{if_leaf}
 use Rattle.earned.specs.Done.{done_in}
-use Rattle.earned.proofs.Measuring.{same_row, measured_in, measured_is}
+use Rattle.earned.proofs.Measuring.{same_row, measured_is}
 use Rattle.earned.proofs.measured.measure_rows.Goals as goal
 
 pub parent_marks-parents-requires : goal.parent_marks-parents-requires
@@ -98,9 +96,3 @@ overflow_add-i-in-loop-i c = omega arith
 
 pub overflow_mul-i-in-loop-i-2 : goal.overflow_mul-i-in-loop-i-2
 overflow_mul-i-in-loop-i-2 c = omega arith
-
-pub overflow_add-i-in-loop-i-2 : goal.overflow_add-i-in-loop-i-2
-overflow_add-i-in-loop-i-2 c = omega arith
-
-pub loop-i-smaller : goal.loop-i-smaller
-loop-i-smaller c = omega arith
