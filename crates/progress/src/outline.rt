@@ -1,5 +1,5 @@
 // The outline at a date: the tree's lines, each with the row of earned value of its activity.
-ghost use Rattle.std.specs.Prelude.{ℕ, ◌*◌, ◌≤◌, ◌≡◌, length};
+ghost use Rattle.std.specs.Prelude.{ℕ, ◌+◌, ◌*◌, ◌≤◌, ◌≡◌, length};
 ghost use Rattle.format.specs.Book.{Book};
 ghost use Rattle.format.specs.Verdict.{content};
 ghost use Rattle.model.specs.Tree as tree;
@@ -17,28 +17,21 @@ use descent::LINE_WIDTH;
 use tree::table::VALUE_WIDTH;
 use value::lines::put_outline;
 
-// The rows from the parents and the rolled figures, with room for the tree's columns and the lines: little for few activities.
-fn list_rows(parents: &[u64], rolled: &[i64], out: &mut [u64]) -> Reply
-    requires { (length parents.now ≤ 500) × (length rolled.now ≡ length parents.now * 5) }
+// The rows from the parents and the rolled figures, with room for the tree's columns and the lines.
+fn list_sized<const FIRST: usize, const NEXT: usize, const LINES: usize>(
+    parents: &[u64],
+    rolled: &[i64],
+    out: &mut [u64],
+) -> Reply
+    requires room { (length parents.now + 1 ≤ FIRST) × (length parents.now ≤ NEXT) × (length parents.now * 2 ≤ LINES) }
+    requires most { (FIRST ≤ 501) × (NEXT ≤ 500) × (LINES ≤ 1000) }
+    requires rolled_len { length rolled.now ≡ length parents.now * 5 }
     ensures { (book : Book) (date : ℕ) → parents_of parents.now ≡ tree.parents book → rolled.now ≡ rolled_values book date → Puts (outline_rows date book) out.old result out.new }
 {
+    let mut first = [0u64; FIRST];
+    let mut next = [0u64; NEXT];
+    let mut lines = [0u64; LINES];
     let n = parents.len();
-    if n <= FEW {
-        let mut first = [0u64; 33];
-        let mut next = [0u64; 32];
-        let mut lines = [0u64; 64];
-        return put_outline(
-            parents,
-            rolled,
-            &mut first[..n + 1],
-            &mut next[..n],
-            &mut lines[..n * LINE_WIDTH],
-            out,
-        );
-    }
-    let mut first = [0u64; 501];
-    let mut next = [0u64; 500];
-    let mut lines = [0u64; 1000];
     put_outline(
         parents,
         rolled,
@@ -47,6 +40,17 @@ fn list_rows(parents: &[u64], rolled: &[i64], out: &mut [u64]) -> Reply
         &mut lines[..n * LINE_WIDTH],
         out,
     )
+}
+
+// The same: little room for few activities.
+fn list_rows(parents: &[u64], rolled: &[i64], out: &mut [u64]) -> Reply
+    requires { (length parents.now ≤ 500) × (length rolled.now ≡ length parents.now * 5) }
+    ensures { (book : Book) (date : ℕ) → parents_of parents.now ≡ tree.parents book → rolled.now ≡ rolled_values book date → Puts (outline_rows date book) out.old result out.new }
+{
+    if parents.len() <= FEW {
+        return list_sized::<33, 32, 64>(parents, rolled, out);
+    }
+    list_sized::<501, 500, 1000>(parents, rolled, out)
 }
 
 // The rows, from tables to work in.
@@ -66,26 +70,21 @@ fn roll_rows(
     list_rows(parents, rolled, out)
 }
 
-// A row for each line of the outline, where the rows fit: small tables for few activities.
-pub fn outline_of(book: &[u8], opened: Opened, date: u64, out: &mut [u64]) -> Reply
-    requires { IsOpened book.now opened }
+// The same, with tables of its own.
+fn roll_sized<const PARENTS: usize, const ROLLED: usize>(
+    book: &[u8],
+    opened: Opened,
+    date: u64,
+    out: &mut [u64],
+) -> Reply
+    requires opened { IsOpened book.now opened }
+    requires room { (opened.plan.activities.count ≤ PARENTS) × (opened.plan.activities.count * 5 ≤ ROLLED) }
+    requires most { (PARENTS ≤ 500) × (ROLLED ≤ 2500) }
     ensures { Puts (outline_rows date (content book.now)) out.old result out.new }
 {
+    let mut parents = [0u64; PARENTS];
+    let mut rolled = [0i64; ROLLED];
     let n = opened.plan.activities.count as usize;
-    if n <= FEW {
-        let mut parents = [0u64; 32];
-        let mut rolled = [0i64; 160];
-        return roll_rows(
-            book,
-            opened,
-            date,
-            &mut parents[..n],
-            &mut rolled[..n * VALUE_WIDTH],
-            out,
-        );
-    }
-    let mut parents = [0u64; 500];
-    let mut rolled = [0i64; 2500];
     roll_rows(
         book,
         opened,
@@ -94,4 +93,15 @@ pub fn outline_of(book: &[u8], opened: Opened, date: u64, out: &mut [u64]) -> Re
         &mut rolled[..n * VALUE_WIDTH],
         out,
     )
+}
+
+// A row for each line of the outline, where the rows fit: small tables for few activities.
+pub fn outline_of(book: &[u8], opened: Opened, date: u64, out: &mut [u64]) -> Reply
+    requires { IsOpened book.now opened }
+    ensures { Puts (outline_rows date (content book.now)) out.old result out.new }
+{
+    if opened.plan.activities.count <= FEW as u64 {
+        return roll_sized::<32, 160>(book, opened, date, out);
+    }
+    roll_sized::<500, 2500>(book, opened, date, out)
 }

@@ -1,5 +1,5 @@
 // The activities' own figures of earned value at a date, from the book.
-ghost use Rattle.std.specs.Prelude.{◌*◌, ◌≡◌, length};
+ghost use Rattle.std.specs.Prelude.{◌*◌, ◌≤◌, ◌≡◌, length};
 ghost use Rattle.format.specs.Verdict.{content};
 ghost use Rattle.tree.specs.Tables.{own_values};
 ghost use Rattle.activities.specs.Schedule.{schedule_of};
@@ -36,33 +36,25 @@ fn make_own(
     date_values(book, opened, date, listed, budgets, own);
 }
 
-// The own figures, and the schedule that they are made from: small tables for few activities.
-pub fn own_values(book: &[u8], opened: Opened, date: u64, schedule: &mut [u64], own: &mut [i64])
+// The same, with tables of its own.
+fn own_sized<const COSTS: usize, const LISTED: usize, const BUDGETS: usize>(
+    book: &[u8],
+    opened: Opened,
+    date: u64,
+    schedule: &mut [u64],
+    own: &mut [i64],
+)
     requires opened { IsOpened book.now opened }
+    requires room { (opened.plan.activities.count * 3 ≤ COSTS) × (opened.plan.activities.count * 3 ≤ LISTED) × (opened.plan.activities.count ≤ BUDGETS) }
+    requires most { (COSTS ≤ 1500) × (LISTED ≤ 1500) × (BUDGETS ≤ 500) }
     requires schedule_len { (length schedule.old ≡ opened.plan.activities.count * 13) × (length own.old ≡ opened.plan.activities.count * 5) }
     ensures schedule { schedule.new ≡ schedule_of (content book.now) }
     ensures own { own.new ≡ own_values (content book.now) date }
 {
+    let mut costs = [0i64; COSTS];
+    let mut listed = [0u64; LISTED];
+    let mut budgets = [0i64; BUDGETS];
     let n = opened.plan.activities.count as usize;
-    if n <= FEW {
-        let mut costs = [0i64; 96];
-        let mut listed = [0u64; 96];
-        let mut budgets = [0i64; 32];
-        make_own(
-            book,
-            opened,
-            date,
-            schedule,
-            &mut costs[..n * COST_WIDTH],
-            &mut listed[..n * LISTED_WIDTH],
-            &mut budgets[..n],
-            own,
-        );
-        return;
-    }
-    let mut costs = [0i64; 1500];
-    let mut listed = [0u64; 1500];
-    let mut budgets = [0i64; 500];
     make_own(
         book,
         opened,
@@ -73,4 +65,18 @@ pub fn own_values(book: &[u8], opened: Opened, date: u64, schedule: &mut [u64], 
         &mut budgets[..n],
         own,
     );
+}
+
+// The own figures, and the schedule that they are made from: small tables for few activities.
+pub fn own_values(book: &[u8], opened: Opened, date: u64, schedule: &mut [u64], own: &mut [i64])
+    requires opened { IsOpened book.now opened }
+    requires schedule_len { (length schedule.old ≡ opened.plan.activities.count * 13) × (length own.old ≡ opened.plan.activities.count * 5) }
+    ensures schedule { schedule.new ≡ schedule_of (content book.now) }
+    ensures own { own.new ≡ own_values (content book.now) date }
+{
+    if opened.plan.activities.count <= FEW as u64 {
+        own_sized::<96, 96, 32>(book, opened, date, schedule, own);
+        return;
+    }
+    own_sized::<1500, 1500, 500>(book, opened, date, schedule, own);
 }

@@ -1,5 +1,5 @@
 // How much of an activity is done, under the technique of the book.
-ghost use Rattle.std.specs.Prelude.{ℕ, ◌*◌, ◌<◌, ◌≡◌, pos, length, get_or};
+ghost use Rattle.std.specs.Prelude.{ℕ, ◌*◌, ◌≤◌, ◌<◌, ◌≡◌, pos, length, get_or};
 ghost use Rattle.format.specs.Verdict.{content};
 ghost use Rattle.model.specs.Earned as model;
 ghost use Rattle.answers.specs.Rows.{performance_rows};
@@ -30,19 +30,29 @@ fn measure_by(book: &[u8], opened: Opened, activity: u64, units: &mut [i64]) -> 
     share_done(technique, &row, 0, done, all)
 }
 
+// The same, with a table of its own.
+fn measure_sized<const UNITS: usize>(book: &[u8], opened: Opened, activity: u64) -> f64
+    requires opened { IsOpened book.now opened }
+    requires room { opened.plan.activities.count * 2 ≤ UNITS }
+    requires most { UNITS ≤ 1000 }
+    requires activity_lt_count { activity < opened.plan.activities.count }
+    ensures { result ≡ model.performance (content book.now) activity }
+{
+    let mut units = [0i64; UNITS];
+    let count = opened.plan.activities.count as usize;
+    measure_by(book, opened, activity, &mut units[..count * 2])
+}
+
 // Of activity i: a small table for few activities.
 fn performance(book: &[u8], opened: Opened, activity: u64) -> f64
     requires opened { IsOpened book.now opened }
     requires activity_lt_count { activity < opened.plan.activities.count }
     ensures { result ≡ model.performance (content book.now) activity }
 {
-    let count = opened.plan.activities.count as usize;
-    if count <= FEW {
-        let mut units = [0i64; 64];
-        return measure_by(book, opened, activity, &mut units[..count * 2]);
+    if opened.plan.activities.count <= FEW as u64 {
+        return measure_sized::<64>(book, opened, activity);
     }
-    let mut units = [0i64; 1000];
-    measure_by(book, opened, activity, &mut units[..count * 2])
+    measure_sized::<1000>(book, opened, activity)
 }
 
 // One number, where it fits.

@@ -1,5 +1,5 @@
 // Earned value of the project: the leaves' own figures, added up.
-ghost use Rattle.std.specs.Prelude.{◌*◌, ◌≡◌, length};
+ghost use Rattle.std.specs.Prelude.{◌*◌, ◌≤◌, ◌≡◌, length};
 ghost use Rattle.format.specs.Verdict.{content};
 ghost use Rattle.model.specs.Earned.{project_earned};
 ghost use Rattle.answers.specs.Rows.{project_earned_rows};
@@ -31,6 +31,29 @@ fn add_leaves(
     sums(&marks, own)
 }
 
+// The same, with tables of its own.
+fn sized_earned<const SCHEDULE: usize, const OWN: usize>(
+    book: &[u8],
+    opened: Opened,
+    date: u64,
+) -> Earned
+    requires opened { IsOpened book.now opened }
+    requires room { (opened.plan.activities.count * 13 ≤ SCHEDULE) × (opened.plan.activities.count * 5 ≤ OWN) }
+    requires most { (SCHEDULE ≤ 6500) × (OWN ≤ 2500) }
+    ensures { result ≡ project_earned (content book.now) date }
+{
+    let mut schedule = [0u64; SCHEDULE];
+    let mut own = [0i64; OWN];
+    let count = opened.plan.activities.count as usize;
+    add_leaves(
+        book,
+        opened,
+        date,
+        &mut schedule[..count * SCHEDULE_WIDTH],
+        &mut own[..count * VALUE_WIDTH],
+    )
+}
+
 // The figures of the project at a date: small tables for few activities.
 pub fn project_earned(book: &[u8], opened: Opened, date: u64) -> Earned
     requires { IsOpened book.now opened }
@@ -47,25 +70,9 @@ pub fn project_earned(book: &[u8], opened: Opened, date: u64) -> Earned
         };
     }
     if count <= FEW {
-        let mut schedule = [0u64; 416];
-        let mut own = [0i64; 160];
-        return add_leaves(
-            book,
-            opened,
-            date,
-            &mut schedule[..count * SCHEDULE_WIDTH],
-            &mut own[..count * VALUE_WIDTH],
-        );
+        return sized_earned::<416, 160>(book, opened, date);
     }
-    let mut schedule = [0u64; 6500];
-    let mut own = [0i64; 2500];
-    add_leaves(
-        book,
-        opened,
-        date,
-        &mut schedule[..count * SCHEDULE_WIDTH],
-        &mut own[..count * VALUE_WIDTH],
-    )
+    sized_earned::<6500, 2500>(book, opened, date)
 }
 
 // One row, where it fits.

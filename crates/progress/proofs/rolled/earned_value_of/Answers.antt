@@ -1,9 +1,7 @@
 -- `earned_value_of` meets its contract: the rows, where they fit.
 use Prim.Native.Nat.{◌≤◌}
 use native.Mathlib.Omega.{arith}
-use mathlib.Core.Path.{sym}
 use lib.Seq.{length-take-le}
-use borrow.Author.Rules.{rules}
 use Rattle.format.specs.Verdict.{content}
 use Rattle.book.proofs.Plan.{activities_count, activities_most}
 use Rattle.answers.specs.Rows.{earned_width, earned_value_rows}
@@ -26,42 +24,19 @@ pub returns-then-count-eq0 : goal.returns-then-count-eq0
 returns-then-count-eq0 c =
     nothing_there (earned_value_rows c.args.date (content c.args.book.now)) c.args.out.now (size (goal.at.returns-then-count-eq0 c).Start) c.if-count-eq0.true
 
-pub fill_rows-requires : goal.fill_rows-requires
-fill_rows-requires c =
-    record { opened = c.requires; rolled_len = (length-take-le _ _ (omega (arith, c.if-count-le-FEW.true)), length-take-le _ _ (omega (arith, c.if-out-n.false))) }
+pub fill_sized-requires : goal.fill_sized-requires
+fill_sized-requires c = record { opened = c.requires; room = omega (arith, c.if-count-le-FEW.true); most = omega arith; out_len = length-take-le _ _ (omega (arith, c.if-out-n.false)) }
 
 pub returns-then-count-le-FEW : goal.returns-then-count-le-FEW
 returns-then-count-le-FEW c =
-    in_front (earned_value_rows c.args.date (content c.args.book.now)) c.args.out.now (size (goal.at.returns-then-count-le-FEW c).Start) (omega (arith, c.if-out-n.false)) _ c.fill_rows.ensures
+    in_front (earned_value_rows c.args.date (content c.args.book.now)) c.args.out.now (size (goal.at.returns-then-count-le-FEW c).Start) (omega (arith, c.if-out-n.false)) _ c.fill_sized.ensures
 
-pub fill_rows-requires-2 : goal.fill_rows-requires-2
-fill_rows-requires-2 c =
-    record { opened = c.requires; rolled_len = (length-take-le _ _ (omega (arith, most (goal.at.fill_rows-requires-2 c).Start)), length-take-le _ _ (omega (arith, c.if-out-n.false))) }
+pub fill_sized-requires-2 : goal.fill_sized-requires-2
+fill_sized-requires-2 c = record { opened = c.requires; room = omega (arith, most (goal.at.fill_sized-requires-2 c).Start); most = omega arith; out_len = length-take-le _ _ (omega (arith, c.if-out-n.false)) }
 
 pub returns : goal.returns
 returns c =
-    in_front (earned_value_rows c.args.date (content c.args.book.now)) c.args.out.now (size (goal.at.returns c).Start) (omega (arith, c.if-out-n.false)) _ c.fill_rows-2.ensures
+    in_front (earned_value_rows c.args.date (content c.args.book.now)) c.args.out.now (size (goal.at.returns c).Start) (omega (arith, c.if-out-n.false)) _ c.fill_sized-2.ensures
 
 pub overflow_mul-n : goal.overflow_mul-n
 overflow_mul-n c = omega (arith, most (goal.at.overflow_mul-n c).Start)
-
-pub overflow_mul-rolled : goal.overflow_mul-rolled
-overflow_mul-rolled c = omega (arith, c.if-count-le-FEW.true)
-
-pub slice_bounds-rolled-end : goal.slice_bounds-rolled-end
-slice_bounds-rolled-end c = omega (arith, c.if-count-le-FEW.true)
-
-pub slice_bounds-fill_rows-end : goal.slice_bounds-fill_rows-end
-slice_bounds-fill_rows-end c = sym (length-take-le _ _ (omega (arith, c.if-count-le-FEW.true)))
-
-pub slice_bounds-fill_rows-end-then-count-le-FEW-2 : goal.slice_bounds-fill_rows-end-then-count-le-FEW-2
-slice_bounds-fill_rows-end-then-count-le-FEW-2 c = sym (length-take-le _ _ (omega (arith, c.if-out-n.false)))
-
-pub slice_bounds-rolled-end-2 : goal.slice_bounds-rolled-end-2
-slice_bounds-rolled-end-2 c = omega (arith, most (goal.at.slice_bounds-rolled-end-2 c).Start)
-
-pub slice_bounds-fill_rows-end-2 : goal.slice_bounds-fill_rows-end-2
-slice_bounds-fill_rows-end-2 c = sym (length-take-le _ _ (omega (arith, most (goal.at.slice_bounds-fill_rows-end-2 c).Start)))
-
-pub slice_bounds-fill_rows-end-4 : goal.slice_bounds-fill_rows-end-4
-slice_bounds-fill_rows-end-4 c = sym (length-take-le _ _ (omega (arith, c.if-out-n.false)))
