@@ -1,7 +1,5 @@
 -- `main` is safe and ends: the book is a part of what was read, and what is written is a page. Assumes nothing.
-use Prim.Native.Nat.{◌-◌}
-use mathlib.Core.Path.{◌≡◌, sym}
-use lib.ListN.{length}
+use mathlib.Core.Path.{sym}
 use lib.Seq.{length-take-le}
 use borrow.Author.Rules.{rules}
 use Rattle.status.proofs.main.Goals as goal
