@@ -59,11 +59,9 @@ pub fn put_activities(out: &mut [u8], rows: &[u64], count: usize) -> usize
     ensures out_after { take result out.new ≡ activity_lines rows.now count }
 {
     let mut end: usize = 0;
-    let mut i: usize = 0;
-    while i < count {
+    for i in 0..count {
         let at = i * EARNED_WIDTH;
         end = put_earned_row(out, end, i as u64, &rows[at..at + EARNED_WIDTH]);
-        i += 1;
     }
     end
 }
@@ -87,11 +85,9 @@ pub fn put_outline_rows(out: &mut [u8], rows: &[u64], count: usize) -> usize
     ensures out_after { take result out.new ≡ outline_lines rows.now count }
 {
     let mut end: usize = 0;
-    let mut i: usize = 0;
-    while i < count {
+    for i in 0..count {
         let at = i * OUTLINE_WIDTH;
         end = put_outline_row(out, end, &rows[at..at + OUTLINE_WIDTH]);
-        i += 1;
     }
     end
 }
@@ -104,11 +100,9 @@ pub fn put_points(out: &mut [u8], points: &[u64], count: usize) -> usize
     ensures out_after { take result out.new ≡ point_lines points.now count }
 {
     let mut end: usize = 0;
-    let mut i: usize = 0;
-    while i < count {
+    for i in 0..count {
         let at = i * 2;
         end = put_row(out, end, points[at], &points[at + 1..at + 2]);
-        i += 1;
     }
     end
 }

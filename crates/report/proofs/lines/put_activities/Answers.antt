@@ -1,12 +1,10 @@
 -- `put_activities` meets its contract. In the loop: the lines so far with those that are left are all. Assumes nothing.
-use Prim.Native.Nat.{◌*◌, ◌-◌, ◌≤◌}
 use native.Mathlib.Omega.{arith}
-use mathlib.Core.Path.{◌≡◌, refl, sym, ◌∙◌}
-use mathlib.Core.List.{◌++◌}
-use lib.ListN.{length, take}
+use mathlib.Core.Path.{refl, sym, ◌∙◌}
+use lib.ListN.{take}
 use borrow.Author.Rules.{rules}
-use Rattle.report.specs.Lines.{activity_line_in, activity_lines}
-use Rattle.report.proofs.Rows.{lines_from, lines_all, lines_next, lines_end, activity_put}
+use Rattle.report.specs.Lines.{activity_lines}
+use Rattle.report.proofs.Rows.{lines_all, lines_next, lines_end, activity_put}
 use Rattle.report.proofs.lines.put_activities.Goals as goal
 
 pub loop-i-init : goal.loop-i-init
