@@ -31,10 +31,6 @@ struct Block {
     pub tally: Tally,
 }
 
-fn next(n: u64) -> u64 {
-    if n < 18446744073709551615 { n + 1 } else { n }
-}
-
 fn print(s: &[u8]) {
     io::write_all(OUT, s);
 }
@@ -44,11 +40,9 @@ fn tell(values: [u64; 4], n: usize) {
     if 0 < n {
         print(b" gives");
     }
-    for k in 0..4 {
-        if k < n {
-            print(b" ");
-            io::print_decimal(OUT, values[k]);
-        }
+    for &value in values.iter().take(n) {
+        print(b" ");
+        io::print_decimal(OUT, value);
     }
 }
 
@@ -81,14 +75,14 @@ fn outcome(line: &[u8], place: u64, end: usize) -> Outcome
 fn counted(line: &[u8], o: Outcome, tally: Tally) -> Tally {
     if o.same {
         return Tally {
-            lines: next(tally.lines),
+            lines: tally.lines.saturating_add(1),
             differ: tally.differ,
         };
     }
     report(line, o.answer);
     Tally {
-        lines: next(tally.lines),
-        differ: next(tally.differ),
+        lines: tally.lines.saturating_add(1),
+        differ: tally.differ.saturating_add(1),
     }
 }
 
@@ -131,17 +125,6 @@ struct Turn {
     pub more: bool,
 }
 
-// Moves the bytes from `from` to `to` to the start.
-fn move_down(buf: &mut [u8], from: usize, to: usize)
-    requires { to ≤ length buf.old }
-{
-    let mut i = from;
-    while i < to {
-        buf[i - from] = buf[i];
-        i += 1;
-    }
-}
-
 // Fills the buffer behind what it has, and replays its whole lines. The input ends where nothing more is read.
 fn read_block(buf: &mut [u8], have: usize, tally: Tally) -> Turn {
     if buf.len() < have {
@@ -161,12 +144,10 @@ fn read_block(buf: &mut [u8], have: usize, tally: Tally) -> Turn {
     }
     let full = have + got;
     let block = replay_block(buf, full, tally);
-    let end = block.end;
-    let now = block.tally;
-    move_down(buf, end, full);
+    buf.copy_within(block.end..full, 0);
     Turn {
-        have: full - end,
-        tally: now,
+        have: full - block.end,
+        tally: block.tally,
         more: true,
     }
 }
@@ -181,8 +162,7 @@ fn main() {
     for _block in 0..BLOCKS {
         let t = read_block(&mut space, have, tally);
         have = t.have;
-        let now = t.tally;
-        tally = now;
+        tally = t.tally;
         if !t.more {
             break;
         }
