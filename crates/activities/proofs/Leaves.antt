@@ -1,10 +1,10 @@
 -- The parents' numbers are the tree, and the leaf marks mark its leaves.
+use Rattle.std.specs.Prelude.{None, Option, Some}
 use Prim.Native.Nat.{ℕ, zero, suc, ◌≤◌, ◌<◌, min}
 use native.Mathlib.Omega.{arith}
 use mathlib.Core.Path.{◌≡◌, refl, ap, ap₂, ◌∙◌}
 use mathlib.Core.Bool.{Bool, true, false, not, cond, ◌||◌}
 use mathlib.Core.List.{List, [], ◌∷◌, map, map-map}
-use mathlib.Core.Option.{Option, none, some}
 use lib.Dec.{eqb}
 use lib.ListN.{length, get_or, length-map}
 use borrow.Author.Tests.{lt-ltb, le-ltb}
@@ -26,8 +26,8 @@ map_same f g (x ∷ xs) h = ap₂ ◌∷◌ (h zero x (omega arith)) (map_same f
 
 parent_back : (n : ℕ) (o : Option ℕ) → n ≤ 500 → Given (λ (i : ℕ). i < n) o → index_of n (mark_of o) ≡ o
 unfolding mark_of
-parent_back n none l h = rw (le-ltb 500 n l)
-parent_back n (some v) l h = let z : min v 500 ≡ v = omega arith in rw (z, lt-ltb v n h)
+parent_back n None l h = rw (le-ltb 500 n l)
+parent_back n (Some v) l h = let z : min v 500 ≡ v = omega arith in rw (z, lt-ltb v n h)
 
 pub parents_are : (b : Book) → length b.activities ≤ 500 → InRange b → parents_of (map parent_number b.activities) ≡ parents b
 unfolding parents_of parents parent_number
@@ -38,10 +38,10 @@ parents_are b l r =
     ∙ map_same (λ (a : Activity). index_of n (parent_number a)) (λ (a : Activity). a.parent) b.activities
     (λ k d h. parent_back n (get_or b.activities k d).parent l (r.activities k d h).parent)
 
-named_same : (i : ℕ) (o : Option ℕ) → layout.names o (some i) ≡ names i o
+named_same : (i : ℕ) (o : Option ℕ) → layout.names o (Some i) ≡ names i o
 unfolding layout.names
-named_same i none = refl
-named_same i (some p) = refl
+named_same i None = refl
+named_same i (Some p) = refl
 
 either : (x y : Bool) → cond x true y ≡ (x || y)
 either true y = refl
@@ -51,7 +51,7 @@ parent_any : (i : ℕ) (l : List Activity) → is_parent i l ≡ any (names i) (
 unfolding is_parent any
 parent_any i [] = refl
 parent_any i (a ∷ as') =
-    either (layout.names a.parent (some i)) (is_parent i as') ∙ ap₂ (λ (x y : Bool). x || y) (named_same i a.parent) (parent_any i as')
+    either (layout.names a.parent (Some i)) (is_parent i as') ∙ ap₂ (λ (x y : Bool). x || y) (named_same i a.parent) (parent_any i as')
 
 mark_leaf : (b : Bool) → eqb (cond b 1 0) 0 ≡ not b
 mark_leaf true = refl

@@ -1,10 +1,10 @@
 -- Leaf marks from a schedule: what a loop keeps that marks the parent of an activity a turn.
+use Rattle.std.specs.Prelude.{None, Option, Some}
 use Prim.Native.Nat.{ℕ, suc, ◌+◌, ◌≤◌, ◌<◌, min}
 use native.Mathlib.Omega.{arith}
 use mathlib.Core.Path.{◌≡◌, refl, ap, sym, ◌∙◌}
 use mathlib.Core.Bool.{Bool, true, false, cond}
 use mathlib.Core.List.{List}
-use mathlib.Core.Option.{Option, none, some}
 use lib.Dec.{eqb}
 use lib.ListN.{length, get_or, set, drop, drop_of_length-le, replicate, get_or-replicate}
 use lib.Seq.{drop-cons, get_or-set_same, get_or-set_other}
@@ -22,10 +22,10 @@ use Rattle.activities.proofs.Leaves.{marks_leaves}
 -- a mark that is set is that of what is named
 set_mark :
     (marks : List ℕ) (a : Option ℕ) (k : ℕ) → length marks ≡ 500 → k < 500 →
-    get_or (set marks (mark_of a) 1) k 0 ≡ cond (names a (some k)) 1 (get_or marks k 0)
+    get_or (set marks (mark_of a) 1) k 0 ≡ cond (names a (Some k)) 1 (get_or marks k 0)
 unfolding names mark_of
-set_mark marks none k l h = get_or-set_other marks 500 k 1 0 (λ e. omega arith)
-set_mark marks (some v) k l h = go (eqb v k) refl
+set_mark marks None k l h = get_or-set_other marks 500 k 1 0 (λ e. omega arith)
+set_mark marks (Some v) k l h = go (eqb v k) refl
   where
     go : (b : Bool) → eqb v k ≡ b → get_or (set marks (min v 500) 1) k 0 ≡ cond b 1 (get_or marks k 0)
     go true e =
@@ -55,7 +55,7 @@ module _ {all : List Activity} {i : ℕ} {marks : List ℕ} (w : Marking all i m
       record {
         rest = λ k b.
             rw (e, next, set_mark marks a.parent k l b)
-            (first_or_rest (names a.parent (some k)) (is_parent k (drop (suc i) all)) (get_or marks k 0)
+            (first_or_rest (names a.parent (Some k)) (is_parent k (drop (suc i) all)) (get_or marks k 0)
             ∙ sym (ap (λ (x : List Activity). cond (is_parent k x) 1 (get_or marks k 0)) (drop-cons all i no_activity h))
             ∙ w.rest k b);
       }

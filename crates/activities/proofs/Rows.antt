@@ -6,11 +6,11 @@ use mathlib.Core.Path.{◌≡◌, refl, ap, sym, ◌∙◌}
 use mathlib.Core.List.{List, [], ◌∷◌, flat_map}
 use lib.ListN.{length, get_or, set, length-set}
 use lib.Seq.{sets, length-sets, get_or-set_same, get_or-set_other}
-use Rattle.format.specs.declared.Pos.{Pos}
 use Rattle.format.specs.Reader.{many}
 use Rattle.format.specs.Codec.{Codec, times, alike, stay}
 use Rattle.format.proofs.Walks.{times_length}
 use Rattle.flat.proofs.Written.{Writing, writing_none, writing_more, writing_end}
+use Rattle.format.specs.Position.{Pos}
 
 -- every row has k entries
 abbrev pub Wide : {A B : Type 0} → (A → List B) → ℕ → Type 0

@@ -1,11 +1,10 @@
 -- The schedule of a book: its length, its entries, and what they say of the activities' days.
+use Rattle.std.specs.Prelude.{None, Option, Some, unwrap_or, ℕ}
 use Prim.Native.Nat.{ℕ, zero, suc, ◌+◌, ◌*◌, ◌≤◌, ◌<◌}
 use native.Mathlib.Omega.{arith}
 use native.Mathlib.Decide.{dec_lt}
 use mathlib.Core.Path.{◌≡◌, refl, ap, ap₂, sym, ◌∙◌}
 use mathlib.Core.List.{List, map}
-use mathlib.Core.Option
-use mathlib.Core.Option.{Option, none, some}
 use lib.IntN.{ℤ}
 use lib.ListN.{length, get_or, length-map, get_or-eq_default}
 use lib.Seq.{ext_get_or}
@@ -15,7 +14,6 @@ use Rattle.format.specs.InRange.{IsDate, Fits64, IsMinutes, InRange}
 use Rattle.format.specs.Book.{Activity, Book}
 use Rattle.format.specs.Verdict.{content}
 use Rattle.format.proofs.Theorems.{content_in_range}
-use Rattle.fields.specs.declared.OptionalNumber.{OptionalNumber}
 use Rattle.book.specs.declared.layout.Plan.{Plan}
 use Rattle.book.specs.Plan.{IsPlanOf}
 use Rattle.book.proofs.Plan.{activities_count, activities_most, calendars_least, activities_in_range}
@@ -48,18 +46,18 @@ dates_place Planned = (omega arith, (refl, refl))
 dates_place Actual = (omega arith, (refl, refl))
 dates_place Remaining = (omega arith, (refl, refl))
 
-pub percent_given_lem : (k u : ℕ) → (k ≡ 0 → ⊥) → some (of_bits u) ≡ percent_of k u
+pub percent_given_lem : (k u : ℕ) → (k ≡ 0 → ⊥) → Some (of_bits u) ≡ percent_of k u
 percent_given_lem zero u h = absurd (h refl)
 percent_given_lem (suc k) u h = refl
 
 -- a percentage is read back from its two numbers
 percent_back : (o : Option ℤ) → Given Fits64 o → percent_of (percent_given o) (percent_bits o) ≡ o
-percent_back none h = refl
-percent_back (some z) h = ap (λ (x : ℤ). some x) (there_and_back z h)
+percent_back None h = refl
+percent_back (Some z) h = ap (λ (x : ℤ). Some x) (there_and_back z h)
 
-given_below : (n : ℕ) (o : Option ℕ) → 0 < n → Given (λ (i : ℕ). i < n) o → Option.get_or o 0 < n
-given_below n none l h = l
-given_below n (some i) l h = h
+given_below : (n : ℕ) (o : Option ℕ) → 0 < n → Given (λ (i : ℕ). i < n) o → unwrap_or o 0 < n
+given_below n None l h = l
+given_below n (Some i) l h = h
 
 -- ---- of one row
 
@@ -170,7 +168,7 @@ module _ (b : Book) {schedule : List ℕ} (e : schedule ≡ schedule_of b) where
 
 -- ---- of an accepted book
 
-module _ {s : List ℕ} {date : OptionalNumber} {plan : Plan} (p : IsPlanOf s date plan) where
+module _ {s : List ℕ} {date : Option ℕ} {plan : Plan} (p : IsPlanOf s date plan) where
   pub parents_of_lem : {ps : List ℕ} → ps ≡ map parent_number (content s).activities → parents_of ps ≡ parents (content s)
   parents_of_lem e = ap parents_of e ∙ parents_are (content s) (omega (arith, activities_count p, activities_most p)) (content_in_range s p.accepted)
 

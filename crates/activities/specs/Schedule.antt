@@ -1,7 +1,6 @@
 -- The schedule: of each activity thirteen numbers, row after row, as every loop over the activities reads them.
-use Rattle.std.specs.Prelude.{ℕ, zero, suc, ◌+◌, ◌*◌, ℤ, get_or}
+use Rattle.std.specs.Prelude.{ℕ, zero, suc, ◌+◌, ◌*◌, ℤ, get_or, None, Option, Some}
 use mathlib.Core.List.{List, [], ◌∷◌, flat_map}
-use Rattle.std.proofs.Math.Option.{Option, none, some}
 use Rattle.format.specs.Enumeration.{status_number}
 use Rattle.format.specs.Book.{Activity, Book}
 use Rattle.money.specs.Words.{bits, of_bits}
@@ -12,16 +11,16 @@ use Rattle.spans.specs.Columns.{parent_number, calendar_number, first_date, last
 -- ---- a percentage that may be absent: 0 and 0, or 1 and its bits
 
 abbrev pub percent_given : Option ℤ → ℕ
-percent_given none = 0
-percent_given (some z) = 1
+percent_given None = 0
+percent_given (Some z) = 1
 
 abbrev pub percent_bits : Option ℤ → ℕ
-percent_bits none = 0
-percent_bits (some z) = bits z
+percent_bits None = 0
+percent_bits (Some z) = bits z
 
 abbrev pub percent_of : ℕ → ℕ → Option ℤ
-percent_of zero u = none
-percent_of (suc k) u = some (of_bits u)
+percent_of zero u = None
+percent_of (suc k) u = Some (of_bits u)
 
 -- ---- the numbers of an activity, under a data date
 

@@ -5,7 +5,6 @@ ghost use Rattle.format.specs.Book.{Book};
 ghost use Rattle.format.specs.Enumeration.{status_of, status_number};
 ghost use Rattle.format.specs.Format as layout;
 ghost use Rattle.format.specs.Verdict.{content};
-ghost use Rattle.fields.specs.Optional.{number_option, amount_option};
 ghost use Rattle.records.specs.Decoded.{activity_of};
 ghost use Rattle.sections.specs.Sections.{alike_in};
 ghost use Rattle.model.specs.Lookup.{activity_at};
@@ -18,7 +17,6 @@ ghost use Rattle.activities.specs.Schedule.{percent_given, percent_bits, percent
 use crate::ways::way_number;
 use book::layout::Plan;
 use fields::enumerations::status_of;
-use fields::{OptionalAmount, OptionalNumber};
 use format::Status;
 use model::Way;
 use money::words::{from_bits, to_bits};
@@ -53,28 +51,28 @@ pub const PERCENT: usize = 12;
 pub const FEW: usize = 32;
 
 // 1 where there is a percentage.
-fn given(percent: OptionalAmount) -> u64
-    ensures { result ≡ percent_given (amount_option percent) }
+fn given(percent: Option<i64>) -> u64
+    ensures { result ≡ percent_given percent }
 {
     match percent {
-        OptionalAmount::Absent => 0,
-        OptionalAmount::Present(_) => 1,
+        None => 0,
+        Some(_) => 1,
     }
 }
 
 // Its bits, 0 where there is none.
-fn percent_bits(percent: OptionalAmount) -> u64
-    ensures { result ≡ percent_bits (amount_option percent) }
+fn percent_bits(percent: Option<i64>) -> u64
+    ensures { result ≡ percent_bits percent }
 {
     match percent {
-        OptionalAmount::Absent => 0,
-        OptionalAmount::Present(p) => to_bits(p),
+        None => 0,
+        Some(p) => to_bits(p),
     }
 }
 
 // The numbers of an activity, under a data date.
-fn row_of(date: OptionalNumber, activity: Activity) -> [u64; SCHEDULE_WIDTH]
-    ensures { result ≡ schedule_row (number_option date) (activity_of activity) }
+fn row_of(date: Option<u64>, activity: Activity) -> [u64; SCHEDULE_WIDTH]
+    ensures { result ≡ schedule_row date (activity_of activity) }
 {
     let from = actual_from(activity);
     [
@@ -95,9 +93,9 @@ fn row_of(date: OptionalNumber, activity: Activity) -> [u64; SCHEDULE_WIDTH]
 }
 
 // One row after the other, in a book with so many calendars and this data date.
-fn fill_rows(book: &[u8], list: Section, calendars: u64, date: OptionalNumber, out: &mut [u64])
+fn fill_rows(book: &[u8], list: Section, calendars: u64, date: Option<u64>, out: &mut [u64])
     requires { length out.old ≡ list.count * 13 }
-    ensures { out.new ≡ flat_map (schedule_row (number_option date)) (alike_in (layout.activity calendars list.count) book.now list) }
+    ensures { out.new ≡ flat_map (schedule_row date) (alike_in (layout.activity calendars list.count) book.now list) }
 {
     let mut next = list.first;
     for i in 0..list.count {
@@ -108,7 +106,7 @@ fn fill_rows(book: &[u8], list: Section, calendars: u64, date: OptionalNumber, o
 }
 
 // The schedule of an accepted book.
-pub fn fill_schedule(book: &[u8], data_date: OptionalNumber, plan: Plan, out: &mut [u64])
+pub fn fill_schedule(book: &[u8], data_date: Option<u64>, plan: Plan, out: &mut [u64])
     requires plan_of { IsPlanOf book.now data_date plan }
     requires out_len { length out.old ≡ plan.activities.count * 13 }
     ensures { out.new ≡ schedule_of (content book.now) }
@@ -117,7 +115,7 @@ pub fn fill_schedule(book: &[u8], data_date: OptionalNumber, plan: Plan, out: &m
 }
 
 // The row of one activity alone.
-pub fn row_at(book: &[u8], data_date: OptionalNumber, plan: Plan, i: u64) -> [u64; SCHEDULE_WIDTH]
+pub fn row_at(book: &[u8], data_date: Option<u64>, plan: Plan, i: u64) -> [u64; SCHEDULE_WIDTH]
     requires plan_of { IsPlanOf book.now data_date plan }
     requires i_lt_count { i < plan.activities.count }
     ensures { result ≡ schedule_row (content book.now).data_date (activity_at (content book.now) i) }
@@ -163,14 +161,14 @@ pub fn status_at(schedule: &[u64], i: usize) -> Status
     status_of(entry(schedule, i, STATUS))
 }
 
-pub fn percent_at(schedule: &[u64], i: usize) -> OptionalAmount
+pub fn percent_at(schedule: &[u64], i: usize) -> Option<i64>
     requires { i * 13 + 12 < length schedule.now }
-    ensures { amount_option result ≡ percent_of (entry_at schedule.now i 11) (entry_at schedule.now i 12) }
+    ensures { result ≡ percent_of (entry_at schedule.now i 11) (entry_at schedule.now i 12) }
 {
     if entry(schedule, i, GIVEN) == 0 {
-        return OptionalAmount::Absent;
+        return None;
     }
-    OptionalAmount::Present(from_bits(entry(schedule, i, PERCENT)))
+    Some(from_bits(entry(schedule, i, PERCENT)))
 }
 
 // The parents: an index, or 500 for none.

@@ -1,4 +1,5 @@
 -- An accepted call: the book is accepted, what is answered is the count of rows, and they stand at the front of lent memory.
+use Rattle.std.specs.Prelude.{Err, Ok}
 use Prim.Native.Nat.{ℕ, ◌+◌, ◌*◌, ◌<◌}
 use mathlib.Core.Path.{◌≡◌, refl, sym, ap, ◌∙◌}
 use mathlib.Core.Bool.{Bool, true, false, cond}
@@ -11,58 +12,58 @@ use mir.Syntax.{w64}
 use mir.Val.{SFits}
 use Rattle.flat.proofs.Cells.{cell_inside}
 use Rattle.flat.proofs.Tables.{flat_length, flat_at}
-use Rattle.format.specs.declared.Pos.{Pos}
-use Rattle.format.specs.declared.Pos.TheVariants as place
 use Rattle.format.specs.Book.{Book}
 use Rattle.format.specs.Verdict.{verdict, content}
 use Rattle.money.specs.Words.{bits, of_bits}
 use Rattle.money.proofs.Bits.{there_and_back}
 use Rattle.rows.specs.Rows.{numbers}
 use Rattle.rows.proofs.Numbers.{numbers_flat}
-use Rattle.answers.specs.declared.Reply.{Reply}
-use Rattle.answers.specs.declared.Reply.TheVariants.{Accepted, Refused}
 use Rattle.answers.specs.Rows.{Rows}
+use Rattle.format.specs.declared.Reason.TheVariants.{TooShort}
 use Rattle.answers.specs.Calls.{Condition, checked, fitted, reply_at, lent_after, reply_place, reply, left}
+use Rattle.format.specs.Position.{Pos, refused}
+use Rattle.format.specs.declared.Refusal.{Refusal}
+use Rattle.answers.specs.Reply.{Reply}
 
-refused_no : {A : Type 0} (e p n : ℕ) → Refused e p ≡ Accepted n → A
-refused_no e p n h = let z : ◌≡◌ {A = ℕ} 0 1 = cc in absurd (omega arith)
+refused_no : {A : Type 0} (e : Refusal) (n : ℕ) → ◌≡◌ {A = Reply} (Err e) (Ok n) → A
+refused_no e n h = let z : ◌≡◌ {A = ℕ} 0 1 = cc in absurd (omega arith)
 
 -- what is accepted was refused for no condition
-passed : (conditions : List Condition) (book : Book) (r : Reply) (n : ℕ) → checked conditions book r ≡ Accepted n → r ≡ Accepted n
+passed : (conditions : List Condition) (book : Book) (r : Reply) (n : ℕ) → checked conditions book r ≡ Ok n → r ≡ Ok n
 unfolding checked
 passed [] book r n h = h
 passed (c ∷ cs) book r n h = go (c.holds book) h (passed cs book r n)
   where
-    go : (b : Bool) → cond b (checked cs book r) (Refused c.number 0) ≡ Accepted n → (checked cs book r ≡ Accepted n → r ≡ Accepted n) → r ≡ Accepted n
+    go : (b : Bool) → cond b (checked cs book r) (refused c.reason 0) ≡ Ok n → (checked cs book r ≡ Ok n → r ≡ Ok n) → r ≡ Ok n
     go true h on = on h
-    go false h on = refused_no c.number 0 n h
+    go false h on = refused_no _ n h
 
 -- and its rows fit
-fits : (rows : Rows) (lent n : ℕ) → fitted rows lent ≡ Accepted n → n ≡ length rows
+fits : (rows : Rows) (lent n : ℕ) → fitted rows lent ≡ Ok n → n ≡ length rows
 unfolding fitted reply_place
 fits rows lent n h = go (leb (length (numbers rows)) lent) h
   where
-    go : (b : Bool) → cond b (Accepted (length rows)) (Refused 10 0) ≡ Accepted n → n ≡ length rows
+    go : (b : Bool) → cond b (Ok (length rows)) (refused TooShort 0) ≡ Ok n → n ≡ length rows
     go true h = sym (ap reply_place h)
-    go false h = refused_no 10 0 n h
+    go false h = refused_no _ n h
 
-module _ (conditions : List Condition) (rows : Book → Rows) (s out : List ℕ) {n : ℕ} (accepted : reply conditions rows s (length out) ≡ Accepted n) where
-  pub accepted_book : (j : ℕ) × (verdict s ≡ place.At j)
+module _ (conditions : List Condition) (rows : Book → Rows) (s out : List ℕ) {n : ℕ} (accepted : reply conditions rows s (length out) ≡ Ok n) where
+  pub accepted_book : (j : ℕ) × (verdict s ≡ Ok j)
   unfolding reply
   accepted_book = go (verdict s) refl accepted
     where
-      go : (p : Pos) → verdict s ≡ p → reply_at p (checked conditions (content s) (fitted (rows (content s)) (length out))) ≡ Accepted n → (j : ℕ) × (verdict s ≡ place.At j)
-      go (place.At j) e h = (j, e)
-      go (place.Refused e p) q h = refused_no e p n h
+      go : (p : Pos) → verdict s ≡ p → reply_at p (checked conditions (content s) (fitted (rows (content s)) (length out))) ≡ Ok n → (j : ℕ) × (verdict s ≡ Ok j)
+      go (Ok j) e h = (j, e)
+      go (Err e) q h = refused_no e n h
 
   -- with the count of its rows
   pub accepted_count : n ≡ length (rows (content s))
   unfolding reply
   accepted_count = go (verdict s) accepted
     where
-      go : (p : Pos) → reply_at p (checked conditions (content s) (fitted (rows (content s)) (length out))) ≡ Accepted n → n ≡ length (rows (content s))
-      go (place.At j) h = fits (rows (content s)) (length out) n (passed conditions (content s) (fitted (rows (content s)) (length out)) n h)
-      go (place.Refused e p) h = refused_no e p n h
+      go : (p : Pos) → reply_at p (checked conditions (content s) (fitted (rows (content s)) (length out))) ≡ Ok n → n ≡ length (rows (content s))
+      go (Ok j) h = fits (rows (content s)) (length out) n (passed conditions (content s) (fitted (rows (content s)) (length out)) n h)
+      go (Err e) h = refused_no e n h
 
   -- which stand at the front of lent memory
   pub accepted_lent : left conditions rows s out ≡ numbers (rows (content s)) ++ drop (length (numbers (rows (content s)))) out

@@ -1,13 +1,15 @@
 -- Rows of one width: how many numbers they have, and what is answered with them.
+use Rattle.std.specs.Prelude.{Ok}
 use Prim.Native.Nat.{ℕ, ◌*◌, ◌≤◌, ◌<◌}
 use mathlib.Core.Path.{◌≡◌, refl, sym, ap, ◌∙◌}
 use mathlib.Core.List.{List, [], ◌∷◌, ◌++◌, map, flat_map, append-nil}
 use native.Mathlib.Omega.{arith}
 use lib.ListN.{length, drop, length-map, length-append}
 use Rattle.rows.specs.Rows.{numbers}
-use Rattle.answers.specs.declared.Reply.TheVariants.{Accepted, Refused}
 use Rattle.answers.specs.Rows.{Rows}
 use Rattle.answers.specs.Calls.{Puts}
+use Rattle.format.specs.declared.Reason.TheVariants.{TooShort}
+use Rattle.format.specs.Position.{refused}
 use Rattle.answers.proofs.Replies.{too_short, filled}
 
 -- so many rows, each of so many numbers
@@ -37,14 +39,14 @@ no_numbers [] e = refl
 no_numbers (x ∷ xs) e = absurd (omega arith)
 
 module _ (rows : Rows) (out : List ℕ) {count width : ℕ} (size : Sized rows count width) where
-  pub no_room : length out < count * width → Puts rows out (Refused 10 0) out
+  pub no_room : length out < count * width → Puts rows out (refused TooShort 0) out
   no_room h = too_short rows out (omega (arith, size.long))
 
-  pub in_front : count * width ≤ length out → (front : List ℕ) → front ≡ numbers rows → Puts rows out (Accepted count) (front ++ drop (count * width) out)
+  pub in_front : count * width ≤ length out → (front : List ℕ) → front ≡ numbers rows → Puts rows out (Ok count) (front ++ drop (count * width) out)
   in_front h front e = filled rows out count (sym size.many) (count * width) (sym size.long) h front e
 
   -- no rows: nothing is put
-  pub nothing_there : count ≡ 0 → Puts rows out (Accepted 0) out
+  pub nothing_there : count ≡ 0 → Puts rows out (Ok 0) out
   nothing_there z =
       let none : length (numbers rows) ≡ 0 = omega (arith, size.long, ap (λ (n : ℕ). n * width) z) in
       filled rows out 0 (sym (size.many ∙ z)) 0 (sym none) (omega arith) [] (sym (no_numbers (numbers rows) none))

@@ -1,8 +1,8 @@
 -- Rows of earned value and of the outline: how long each is, and how many there are.
+use Rattle.std.specs.Prelude.{option_map}
 use Prim.Native.Nat.{ℕ}
 use native.Mathlib.Omega.{arith}
 use mathlib.Core.Path.{◌≡◌, ◌∙◌}
-use mathlib.Core.Option.{map}
 use lib.ListN.{length}
 use Rattle.lists.proofs.Spans.{made_length}
 use Rattle.money.specs.Words.{bits}
@@ -19,7 +19,7 @@ use Rattle.answers.proofs.Sized.{Sized, sized, one_sized}
 -- what is spent takes two numbers, whether it is there or not
 pub row_wide : (e : Earned) → length (earned_row e) ≡ earned_width
 unfolding earned_row
-row_wide e = omega (arith, optional_two (map bits (spent_in e)))
+row_wide e = omega (arith, optional_two (option_map bits (spent_in e)))
 
 pub values_sized : (date : ℕ) (b : Book) (n : ℕ) → length b.activities ≡ n → Sized (earned_value_rows date b) n earned_width
 unfolding earned_value_rows earned_value

@@ -1,3 +1,4 @@
+pub mod Reply
 pub mod Rows
 pub mod Calls
 pub mod Opened

@@ -1,8 +1,6 @@
 -- The rows of each call: numbers in the field order of the Rust's structs, signed ones in two's complement, floats as their bits, an absent value as 0 0, a present one as 1 and it.
-use Rattle.std.specs.Prelude.{ℕ, ◌+◌, Bool, cond, Float}
+use Rattle.std.specs.Prelude.{ℕ, ◌+◌, Bool, cond, Float, None, Option, Some, option_map}
 use mathlib.Core.List.{List, [], ◌∷◌, ◌++◌, map, flat_map}
-use Rattle.std.proofs.Math.Option
-use Rattle.std.proofs.Math.Option.{Option, none, some}
 use Rattle.format.specs.declared.EtcTechnique.{EtcTechnique}
 use Rattle.format.specs.Book.{Book}
 use Rattle.floats.specs.Figures.{bits_of}
@@ -91,7 +89,7 @@ earned_width = 7
 -- the five figures, then what is spent of the budget, if there is a budget
 unfoldable pub earned_row : Earned → List ℕ
 earned_row e =
-    bits e.budget ∷ bits e.planned ∷ bits e.earned ∷ bits e.actual ∷ bits e.remaining ∷ optional (Option.map bits (spent_in e))
+    bits e.budget ∷ bits e.planned ∷ bits e.earned ∷ bits e.actual ∷ bits e.remaining ∷ optional (option_map bits (spent_in e))
 
 -- a row for each activity, at a status date
 unfoldable pub earned_value_rows : ℕ → Book → Rows
@@ -121,7 +119,7 @@ performance_rows i book = (bits_of (performance book i) ∷ []) ∷ []
 
 -- an index by the float's bits, where it is present
 unfoldable pub index_bits : Bool → Float → Option ℕ
-index_bits present value = cond present (some (bits_of value)) none
+index_bits present value = cond present (Some (bits_of value)) None
 
 -- ETC, EAC and VAC
 unfoldable pub estimates_row : EtcTechnique → Earned → List ℕ
@@ -146,7 +144,7 @@ project_indices_rows date book = forecast_row book.forecast (project_earned book
 
 -- a period's index, its close and the planned value at it, then what is earned and spent to date, if records of it are stored
 unfoldable pub period_row : PeriodPoint → List ℕ
-period_row p = p.period ∷ p.finish ∷ bits p.planned ∷ (optional (Option.map bits p.earned) ++ optional (Option.map bits p.actual))
+period_row p = p.period ∷ p.finish ∷ bits p.planned ∷ (optional (option_map bits p.earned) ++ optional (option_map bits p.actual))
 
 -- a row for each financial period
 unfoldable pub period_points_rows : Book → Rows
@@ -154,8 +152,8 @@ period_points_rows book = map period_row (period_points book)
 
 -- zeros for none, else 1, then start, finish, duration and cost
 unfoldable pub variance_row : Option Variance → List ℕ
-variance_row none = 0 ∷ 0 ∷ 0 ∷ 0 ∷ 0 ∷ []
-variance_row (some v) = 1 ∷ bits v.start ∷ bits v.finish ∷ bits v.duration ∷ bits v.cost ∷ []
+variance_row None = 0 ∷ 0 ∷ 0 ∷ 0 ∷ 0 ∷ []
+variance_row (Some v) = 1 ∷ bits v.start ∷ bits v.finish ∷ bits v.duration ∷ bits v.cost ∷ []
 
 -- a row for each activity
 unfoldable pub variances_rows : Book → Rows
@@ -171,7 +169,7 @@ budget_row l =
     ∷ bits l.proposed
     ∷ bits l.distributed
     ∷ bits l.planned
-    ∷ optional (some (bits l.scheduled)))
+    ∷ optional (Some (bits l.scheduled)))
 
 -- a row for each line of the budget
 unfoldable pub budget_rows : Book → Rows

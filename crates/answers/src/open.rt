@@ -3,106 +3,88 @@ ghost use Rattle.std.specs.Prelude.{ℕ, List, [], ◌∷◌, ◌++◌};
 ghost use Rattle.answers.specs.Calls.{Condition, activity_asked, date_asked};
 ghost use Rattle.answers.specs.Opened.{IsAsked};
 
-use crate::{DATE_OUT_OF_RANGE, UNKNOWN_ACTIVITY, is_date};
+use crate::is_date;
 use book::layout::{Ledger, Plan, read_layout};
-use fields::OptionalNumber;
-use format::{EtcTechnique, EvTechnique, Pos};
+use format::{EtcTechnique, EvTechnique, Reason, Refusal};
 
 // The data date, the technique, the forecast and the lists of an accepted book.
 #[derive(Clone, Copy)]
 pub struct Opened {
-    pub date: OptionalNumber,
+    pub date: Option<u64>,
     pub technique: EvTechnique,
     pub forecast: EtcTechnique,
     pub plan: Plan,
     pub ledger: Ledger,
 }
 
-// A refused book or call, with the number and the place, or what was opened of an accepted book.
-#[derive(Clone, Copy)]
-pub struct Opening {
-    pub refused: bool,
-    pub number: u64,
-    pub place: usize,
-    pub opened: Opened,
+impl Opened {
+    // Asked for an activity besides: refused where it is not in the book.
+    pub fn with_activity(self, activity: u64) -> Result<Opened, Refusal>
+        ensures { (conditions : List Condition) (s : List ℕ) → IsAsked conditions s (Ok self) → IsAsked (conditions ++ (activity_asked activity ∷ [])) s result }
+    {
+        if activity < self.plan.activities.count {
+            return Ok(self);
+        }
+        Err(Refusal {
+            reason: Reason::UnknownActivity,
+            place: 0,
+        })
+    }
+
+    // Asked for a date besides: refused where it is outside D's range.
+    pub fn with_date(self, date: u64) -> Result<Opened, Refusal>
+        ensures { (conditions : List Condition) (s : List ℕ) → IsAsked conditions s (Ok self) → IsAsked (conditions ++ (date_asked date ∷ [])) s result }
+    {
+        if is_date(date) {
+            return Ok(self);
+        }
+        Err(Refusal {
+            reason: Reason::DateOutOfRange,
+            place: 0,
+        })
+    }
 }
 
 // The book's layout, read once.
-pub fn open(book: &[u8]) -> Opening
+pub fn open(book: &[u8]) -> Result<Opened, Refusal>
     ensures { IsAsked [] book.now result }
 {
     let layout = read_layout(book);
+    layout.end?;
     let header = layout.header;
-    let date = header.date;
-    let technique = header.technique;
-    let forecast = header.forecast;
-    let plan = layout.plan;
-    let ledger = layout.ledger;
-    let opened = Opened {
-        date,
-        technique,
-        forecast,
-        plan,
-        ledger,
-    };
-    let end = layout.end;
-    match end {
-        Pos::At(_) => Opening {
-            refused: false,
-            number: 0,
-            place: 0,
-            opened,
-        },
-        Pos::Refused(number, place) => Opening {
-            refused: true,
-            number,
-            place,
-            opened,
-        },
-    }
+    Ok(Opened {
+        date: header.date,
+        technique: header.technique,
+        forecast: header.forecast,
+        plan: layout.plan,
+        ledger: layout.ledger,
+    })
 }
 
-// Asked for an activity besides: refused where it is not in the book.
-pub fn ask_activity(opening: Opening, activity: u64) -> Opening
-    ensures { (conditions : List Condition) (s : List ℕ) → IsAsked conditions s opening → IsAsked (conditions ++ (activity_asked activity ∷ [])) s result }
+// The book opened, asked for a date.
+pub fn open_at(book: &[u8], date: u64) -> Result<Opened, Refusal>
+    ensures { IsAsked (date_asked date ∷ []) book.now result }
 {
-    if opening.refused {
-        return opening;
-    }
-    if activity < opening.opened.plan.activities.count {
-        return opening;
-    }
-    let opened = opening.opened;
-    Opening {
-        refused: true,
-        number: UNKNOWN_ACTIVITY,
-        place: 0,
-        opened,
-    }
+    open(book)?.with_date(date)
 }
 
-// Asked for a date besides: refused where it is outside D's range.
-pub fn ask_date(opening: Opening, date: u64) -> Opening
-    ensures { (conditions : List Condition) (s : List ℕ) → IsAsked conditions s opening → IsAsked (conditions ++ (date_asked date ∷ [])) s result }
+// Asked for two dates, the first of them first.
+pub fn open_between(book: &[u8], from: u64, to: u64) -> Result<Opened, Refusal>
+    ensures { IsAsked (date_asked from ∷ date_asked to ∷ []) book.now result }
 {
-    if opening.refused {
-        return opening;
-    }
-    if is_date(date) {
-        return opening;
-    }
-    let opened = opening.opened;
-    Opening {
-        refused: true,
-        number: DATE_OUT_OF_RANGE,
-        place: 0,
-        opened,
-    }
+    open_at(book, from)?.with_date(to)
 }
 
-// The book opened, asked for an activity and then for a date.
-pub fn open_for(book: &[u8], activity: u64, date: u64) -> Opening
+// Asked for an activity.
+pub fn open_on(book: &[u8], activity: u64) -> Result<Opened, Refusal>
+    ensures { IsAsked (activity_asked activity ∷ []) book.now result }
+{
+    open(book)?.with_activity(activity)
+}
+
+// Asked for an activity and then for a date.
+pub fn open_for(book: &[u8], activity: u64, date: u64) -> Result<Opened, Refusal>
     ensures { IsAsked (activity_asked activity ∷ date_asked date ∷ []) book.now result }
 {
-    ask_date(ask_activity(open(book), activity), date)
+    open_on(book, activity)?.with_date(date)
 }

@@ -1,12 +1,11 @@
 -- The lines, the listed spans and the budgets of a book, as the tables hold them.
+use Rattle.std.specs.Prelude.{None, Option, Some, unwrap_or, ℕ}
 use Prim.Native.Nat.{ℕ, zero, suc, ◌+◌, ◌*◌, ◌≤◌, ◌<◌}
 use native.Mathlib.Omega.{arith}
 use native.Mathlib.Decide.{dec_lt}
 use mathlib.Core.Path.{◌≡◌, refl, ap, ap₂, sym, ◌∙◌, subst, fun_ext}
 use mathlib.Core.Bool.{Bool, true, false, cond}
 use mathlib.Core.List.{List, [], ◌∷◌, map, flat_map}
-use mathlib.Core.Option
-use mathlib.Core.Option.{Option, none, some, or_else}
 use lib.Dec.{eqb}
 use lib.IntN.{ℤ, pos}
 use lib.ListN.{length, get_or, get_or-eq_default}
@@ -19,7 +18,6 @@ use Rattle.format.specs.Verdict.{content}
 use Rattle.money.specs.declared.costs.Cost.{Cost}
 use Rattle.money.specs.Words.{of_bits}
 use Rattle.money.proofs.Bits.{there_and_back}
-use Rattle.fields.specs.declared.OptionalNumber.{OptionalNumber}
 use Rattle.sections.specs.declared.Section.{Section}
 use Rattle.book.specs.declared.layout.Plan.{Plan}
 use Rattle.book.specs.declared.layout.Baseline.{Baseline}
@@ -53,6 +51,7 @@ use Rattle.spans.proofs.Days.{date_days}
 use Rattle.activities.proofs.Scheduling.{calendar_at_lem, first_at_lem, last_at_lem}
 use Rattle.baseline.specs.Lines.{line_by, line_row, lines_table, IsLines}
 use Rattle.baseline.specs.Listed.{by_line, start_of, finish_of, listed_first, listed_last, listed_row, listed_of, first_at, last_at, number_at, if_leaf, of_leaf, budgets_of}
+use Rattle.std.specs.Option.{option_or}
 
 -- ---- lines in range
 
@@ -62,27 +61,27 @@ module _ (P : BaselineLine → Type 0) (i : ℕ) where
   first_holds [] h = tt
   first_holds (l ∷ ls) h = go (eqb l.activity i) (first_holds ls (λ k d q. h (suc k) d (omega arith)))
     where
-      go : (b : Bool) → Given P (first_line ls i) → Given P (cond b (some l) (first_line ls i))
+      go : (b : Bool) → Given P (first_line ls i) → Given P (cond b (Some l) (first_line ls i))
       go true r = h zero l (omega arith)
       go false r = r
 
   last_holds : (ls : List BaselineLine) → Every P ls → Given P (last_among ls i)
-  unfolding last_among or_else
+  unfolding last_among
   last_holds [] h = tt
   last_holds (l ∷ ls) h = go (last_among ls i) (eqb l.activity i) (last_holds ls (λ k d q. h (suc k) d (omega arith)))
     where
-      go : (o : Option BaselineLine) (b : Bool) → Given P o → Given P (or_else o (cond b (some l) none))
-      go (some x) b r = r
-      go none true r = h zero l (omega arith)
-      go none false r = tt
+      go : (o : Option BaselineLine) (b : Bool) → Given P o → Given P (option_or o (cond b (Some l) None))
+      go (Some x) b r = r
+      go None true r = h zero l (omega arith)
+      go None false r = tt
 
-among : (n : ℕ) (o : Option (List BaselineLine)) → Given (BaselineInRange n) o → Every (BaselineLineInRange n) (Option.get_or o [])
-among n none h = λ k d l. absurd (omega arith)
-among n (some ls) h = h.lines
+among : (n : ℕ) (o : Option (List BaselineLine)) → Given (BaselineInRange n) o → Every (BaselineLineInRange n) (unwrap_or o [])
+among n None h = λ k d l. absurd (omega arith)
+among n (Some ls) h = h.lines
 
 by_line_lem : {A : Type 0} (P : A → Type 0) (f : BaselineLine → A) (o : Option BaselineLine) (x : A) → Given (λ l. P (f l)) o → P x → P (by_line f o x)
-by_line_lem P f none x h k = k
-by_line_lem P f (some l) x h k = h
+by_line_lem P f None x h k = k
+by_line_lem P f (Some l) x h k = h
 
 -- ---- as the code makes the tables
 
@@ -111,16 +110,16 @@ module _ (b : Book) where
       ∙ rows_at 5 (λ k. line_row (line_by last b k)) (λ k. five (line_by last b k)) (length (parents b)) i j 0 (omega (arith, parents_count b)) l
     where
       five : (o : Option BaselineLine) → length (line_row o) ≡ 5
-      five none = refl
-      five (some x) = refl
+      five None = refl
+      five (Some x) = refl
 
   pub line_marked : (last : Bool) {lines : List ℕ} → lines ≡ lines_table last b → (i : ℕ) → i < length b.activities → get_or lines (i * 5) 0 ≡ get_or (line_row (line_by last b i)) 0 0
   line_marked last {lines} e i h = let z : i * 5 ≡ i * 5 + 0 = omega arith in ap (λ (k : ℕ). get_or lines k 0) z ∙ lined_at last e i 0 h (omega arith)
 
   pub line_range : InRange b → (last : Bool) (i : ℕ) → Given (BaselineLineInRange (length b.activities)) (line_by last b i)
   unfolding line_of last_line
-  line_range r true i = last_holds (BaselineLineInRange (length b.activities)) i (Option.get_or b.baseline []) (among (length b.activities) b.baseline r.baseline)
-  line_range r false i = first_holds (BaselineLineInRange (length b.activities)) i (Option.get_or b.baseline []) (among (length b.activities) b.baseline r.baseline)
+  line_range r true i = last_holds (BaselineLineInRange (length b.activities)) i (unwrap_or b.baseline []) (among (length b.activities) b.baseline r.baseline)
+  line_range r false i = first_holds (BaselineLineInRange (length b.activities)) i (unwrap_or b.baseline []) (among (length b.activities) b.baseline r.baseline)
 
   -- ---- the table of the listed spans, from the schedule and the lines
 
@@ -135,8 +134,8 @@ module _ (b : Book) where
             (o : Option BaselineLine) → let a = activity_at b i in
             cond (eqb (get_or (line_row o) 0 0) 0) a.early_start (get_or (line_row o) 1 0) ∷ cond (eqb (get_or (line_row o) 0 0) 0) a.early_finish (get_or (line_row o) 2 0) ∷ calendar_number a ∷ []
             ≡ by_line start_of o a.early_start ∷ by_line finish_of o a.early_finish ∷ calendar_number a ∷ []
-        go none = refl
-        go (some l) = refl
+        go None = refl
+        go (Some l) = refl
 
     pub spans_listed : (n : ℕ) → length b.activities ≡ n → flat_map (span_in schedule lines) (span 0 n) ≡ listed_of b
     unfolding listed_of
@@ -161,8 +160,8 @@ module _ (b : Book) where
             (leaf : Bool) → (leaf ≡ true → cost_of b i ≡ own_cost b i) → (o : Option BaselineLine) → Given (BaselineLineInRange (length b.activities)) o →
             cond leaf (cond (eqb (get_or (line_row o) 0 0) 0) (own_cost b i).budget (of_bits (get_or (line_row o) 4 0))) (pos 0) ≡ cond leaf (budget_by o (cost_of b i).budget) (pos 0)
         go false c o g = refl
-        go true c none g = sym (ap (λ (x : Cost). x.budget) (c refl))
-        go true c (some l) g = there_and_back l.cost g.cost
+        go true c None g = sym (ap (λ (x : Cost). x.budget) (c refl))
+        go true c (Some l) g = there_and_back l.cost g.cost
 
     pub budgets_listed : (n : ℕ) → length b.activities ≡ n → map (budget_in marks lines costs) (span 0 n) ≡ budgets_of b
     unfolding budgets_of
@@ -208,8 +207,8 @@ module _ (b : Book) where
     listed_list i h = rw (listed_number i h, listed_first_lem i h, listed_last_lem i h) (go (line_of b i))
       where
         go : (o : Option BaselineLine) → let a = activity_at b i in days_by b i o ≡ day_list (calendar_of b a) (by_line start_of o a.early_start) (by_line finish_of o a.early_finish)
-        go none = refl
-        go (some l) = refl
+        go None = refl
+        go (Some l) = refl
 
     -- ---- in a book whose numbers are in range
 
@@ -219,16 +218,16 @@ module _ (b : Book) where
       first_range i h = by_line_lem IsDate start_of (line_of b i) (activity_at b i).early_start (go (line_of b i) (line_range r false i)) (r.activities i no_activity h).early_start
         where
           go : (o : Option BaselineLine) → Given (BaselineLineInRange (length b.activities)) o → Given (λ (l : BaselineLine). IsDate l.start) o
-          go none k = tt
-          go (some l) k = k.start
+          go None k = tt
+          go (Some l) k = k.start
 
       last_range : (i : ℕ) → i < length b.activities → IsDate (listed_last b i)
       unfolding listed_last
       last_range i h = by_line_lem IsDate finish_of (line_of b i) (activity_at b i).early_finish (go (line_of b i) (line_range r false i)) (r.activities i no_activity h).early_finish
         where
           go : (o : Option BaselineLine) → Given (BaselineLineInRange (length b.activities)) o → Given (λ (l : BaselineLine). IsDate l.finish) o
-          go none k = tt
-          go (some l) k = k.finish
+          go None k = tt
+          go (Some l) k = k.finish
 
       pub listed_date : (i : ℕ) → i < length b.activities → IsDate (first_at listed i)
       listed_date i h = subst IsDate (sym (listed_first_lem i h)) (first_range i h)
@@ -237,9 +236,9 @@ module _ (b : Book) where
       unfolding calendar_number
       listed_named least i h = rw (listed_number i h) (go (activity_at b i).calendar (r.activities i no_activity h).calendar)
         where
-          go : (o : Option ℕ) → Given (λ (k : ℕ). k < length b.calendars) o → Option.get_or o 0 < length b.calendars
-          go none g = least
-          go (some k) g = g
+          go : (o : Option ℕ) → Given (λ (k : ℕ). k < length b.calendars) o → unwrap_or o 0 < length b.calendars
+          go None g = least
+          go (Some k) g = g
 
       pub listed_days_lem : (i : ℕ) → i < length b.activities → listed_days b i ≡ days_in (calendar_at b (number_at listed i)) (first_at listed i) (last_at listed i)
       listed_days_lem i h = listed_list i h ∙ date_days (calendar_at b (number_at listed i)) (first_at listed i) (last_at listed i) (listed_date i h)
@@ -276,11 +275,11 @@ listed_covers listed {r} c = subst (λ (f : ℕ → ℕ). CoversSpans f (last_at
 -- ---- of an accepted book
 
 pub lines_are :
-    {s : List ℕ} {date : OptionalNumber} {plan : Plan} {baseline : Baseline} → IsPlanOf s date plan → IsBaselineOf s plan baseline →
-    (list : Section) → Option.get_or (lines_of s plan.activities.count baseline) [] ≡ alike_in (layout.baseline_line plan.activities.count) s list → IsLines s list plan.activities.count
+    {s : List ℕ} {date : Option ℕ} {plan : Plan} {baseline : Baseline} → IsPlanOf s date plan → IsBaselineOf s plan baseline →
+    (list : Section) → unwrap_or (lines_of s plan.activities.count baseline) [] ≡ alike_in (layout.baseline_line plan.activities.count) s list → IsLines s list plan.activities.count
 lines_are {s} p w list e =
     record {
       counted = parents_count (content s) ∙ activities_count p;
-      listed = ap (λ (o : Option (List BaselineLine)). Option.get_or o []) w.lines ∙ e;
+      listed = ap (λ (o : Option (List BaselineLine)). unwrap_or o []) w.lines ∙ e;
       ranges = lines_in_range p;
     }

@@ -1,4 +1,5 @@
 -- The lines of the baseline, taken into a table one after the other: of each activity the first or the last counts.
+use Rattle.std.specs.Prelude.{None, Option, Some, unwrap_or}
 use Prim.Native.Nat.{ℕ, zero, suc, ◌+◌, ◌*◌, ◌≤◌, ◌<◌}
 use native.Mathlib.Numerals.{add-one}
 use native.Mathlib.Nat.{add-zero}
@@ -8,8 +9,6 @@ use mathlib.Core.Path.{◌≡◌, refl, ap, sym, ◌∙◌, subst, fun_ext}
 use mathlib.Core.Logic.{◌⊎◌, inl, inr}
 use mathlib.Core.Bool.{Bool, true, false, cond}
 use mathlib.Core.List.{List, [], ◌∷◌, flat_map, foldl}
-use mathlib.Core.Option
-use mathlib.Core.Option.{Option, none, some, or_else}
 use lib.Dec.{eqb}
 use lib.ListN.{length, get_or, set, drop, take, replicate, length-set, drop_of_length-le}
 use lib.Seq.{sets, length-sets, get_or-set_same, get_or-set_other, drop-cons}
@@ -24,6 +23,7 @@ use Rattle.model.specs.Variances.{last_among, last_line}
 use Rattle.flat.proofs.Cells.{row_inside, cell_apart}
 use Rattle.flat.proofs.Spans.{rows_length, rows_at, rows_cells}
 use Rattle.baseline.specs.Lines.{line_by, line_row, lines_table, counts, taken, Zeros}
+use Rattle.std.specs.Option.{option_or}
 
 -- ---- a row set in a table
 
@@ -71,14 +71,14 @@ abbrev pub table_of : ℕ → Lines → List ℕ
 table_of n f = flat_map (λ (i : ℕ). line_row (f i)) (span 0 n)
 
 five : (o : Option BaselineLine) → length (line_row o) ≡ 5
-five none = refl
-five (some l) = refl
+five None = refl
+five (Some l) = refl
 
 -- of two lines of an activity
 abbrev picked : Bool → Option BaselineLine → BaselineLine → Option BaselineLine
-picked true o l = some l
-picked false none l = some l
-picked false (some x) l = some x
+picked true o l = Some l
+picked false None l = Some l
+picked false (Some x) l = Some x
 
 -- with one line more
 abbrev with_line : Bool → Lines → BaselineLine → Lines
@@ -104,7 +104,7 @@ module _ (last : Bool) (n : ℕ) (f : Lines) (l : BaselineLine) (h : l.activity 
   marked = let e : a * 5 ≡ a * 5 + 0 = omega arith in rw e (rows_at 5 (λ i. line_row (f i)) (λ i. five (f i)) n a 0 0 h (omega arith))
 
   -- the line counts
-  took : picked last (f a) l ≡ some l → sets (table_of n f) (a * 5) (line_row (some l)) ≡ table_of n (with_line last f l)
+  took : picked last (f a) l ≡ Some l → sets (table_of n f) (a * 5) (line_row (Some l)) ≡ table_of n (with_line last f l)
   took e =
       ap (λ (o : Option BaselineLine). sets (table_of n f) (a * 5) (line_row o)) (sym (mine ∙ e))
       ∙ row_set 0 5 (λ i. line_row (f i)) (λ i. line_row (with_line last f l i)) (λ i. five (f i)) (λ i. five (with_line last f l i)) n a h (λ j d. ap line_row (others j d))
@@ -123,11 +123,11 @@ module _ (last : Bool) (n : ℕ) (f : Lines) (l : BaselineLine) (h : l.activity 
     where
       go :
           (last : Bool) (o : Option BaselineLine) → let next = table_of n (with_line last f l) in
-          (picked last o l ≡ some l → sets (table_of n f) (a * 5) (line_row (some l)) ≡ next) → (picked last o l ≡ o → table_of n f ≡ next) →
-          cond (counts last (get_or (line_row o) 0 0)) (sets (table_of n f) (a * 5) (line_row (some l))) (table_of n f) ≡ next
+          (picked last o l ≡ Some l → sets (table_of n f) (a * 5) (line_row (Some l)) ≡ next) → (picked last o l ≡ o → table_of n f ≡ next) →
+          cond (counts last (get_or (line_row o) 0 0)) (sets (table_of n f) (a * 5) (line_row (Some l))) (table_of n f) ≡ next
       go true o t s = t refl
-      go false none t s = t refl
-      go false (some x) t s = s refl
+      go false None t s = t refl
+      go false (Some x) t s = s refl
 
 -- ---- all lines
 
@@ -142,46 +142,46 @@ taken_lines last n (l ∷ ls) f r =
     ap (λ (t : List ℕ). foldl (taken last) t ls) (taken_step last n f l (r 0 l (omega arith)).activity)
     ∙ taken_lines last n ls (with_line last f l) (λ k d q. r (suc k) d (omega arith))
 
-first_of : (ls : List BaselineLine) (f : Lines) (i : ℕ) → all_lines false f ls i ≡ or_else (f i) (first_line ls i)
-unfolding first_line or_else
+first_of : (ls : List BaselineLine) (f : Lines) (i : ℕ) → all_lines false f ls i ≡ option_or (f i) (first_line ls i)
+unfolding first_line
 first_of [] f i = go (f i)
   where
-    go : (o : Option BaselineLine) → o ≡ or_else o none
-    go none = refl
-    go (some x) = refl
+    go : (o : Option BaselineLine) → o ≡ option_or o None
+    go None = refl
+    go (Some x) = refl
 first_of (l ∷ ls) f i = first_of ls (with_line false f l) i ∙ go (eqb l.activity i) (f i)
   where
-    go : (b : Bool) (o : Option BaselineLine) → or_else (cond b (picked false o l) o) (first_line ls i) ≡ or_else o (cond b (some l) (first_line ls i))
-    go true none = refl
-    go true (some x) = refl
+    go : (b : Bool) (o : Option BaselineLine) → option_or (cond b (picked false o l) o) (first_line ls i) ≡ option_or o (cond b (Some l) (first_line ls i))
+    go true None = refl
+    go true (Some x) = refl
     go false o = refl
 
-last_of : (ls : List BaselineLine) (f : Lines) (i : ℕ) → all_lines true f ls i ≡ or_else (last_among ls i) (f i)
-unfolding last_among or_else
+last_of : (ls : List BaselineLine) (f : Lines) (i : ℕ) → all_lines true f ls i ≡ option_or (last_among ls i) (f i)
+unfolding last_among
 last_of [] f i = refl
 last_of (l ∷ ls) f i = last_of ls (with_line true f l) i ∙ go (last_among ls i) (eqb l.activity i)
   where
-    go : (o : Option BaselineLine) (b : Bool) → or_else o (cond b (some l) (f i)) ≡ or_else (or_else o (cond b (some l) none)) (f i)
-    go none true = refl
-    go none false = refl
-    go (some x) b = refl
+    go : (o : Option BaselineLine) (b : Bool) → option_or o (cond b (Some l) (f i)) ≡ option_or (option_or o (cond b (Some l) None)) (f i)
+    go None true = refl
+    go None false = refl
+    go (Some x) b = refl
 
 -- from no lines
 pub taken_all :
-    (last : Bool) (book : Book) (n : ℕ) → length (parents book) ≡ n → Every (BaselineLineInRange n) (Option.get_or book.baseline []) → (table : List ℕ) → length table ≡ n * 5 → Zeros table →
-    foldl (taken last) table (Option.get_or book.baseline []) ≡ lines_table last book
-unfolding lines_table line_of last_line or_else
+    (last : Bool) (book : Book) (n : ℕ) → length (parents book) ≡ n → Every (BaselineLineInRange n) (unwrap_or book.baseline []) → (table : List ℕ) → length table ≡ n * 5 → Zeros table →
+    foldl (taken last) table (unwrap_or book.baseline []) ≡ lines_table last book
+unfolding lines_table line_of last_line
 taken_all last book n e r table long zeros =
-    let ls = Option.get_or book.baseline [] in
+    let ls = unwrap_or book.baseline [] in
     ap (λ (t : List ℕ). foldl (taken last) t ls) clear
-    ∙ taken_lines last n ls (λ i. none) r
+    ∙ taken_lines last n ls (λ i. None) r
     ∙ ap (table_of n) (fun_ext (λ i. go last i))
     ∙ ap (λ (k : ℕ). table_of k (line_by last book)) (sym e)
   where
-    clear : table ≡ table_of n (λ i. none)
-    clear = rows_cells 5 (λ i. line_row none) (λ i. refl) n 0 table long (λ i j h l. zeros (i * 5 + j) ∙ sym (nought j))
+    clear : table ≡ table_of n (λ i. None)
+    clear = rows_cells 5 (λ i. line_row None) (λ i. refl) n 0 table long (λ i j h l. zeros (i * 5 + j) ∙ sym (nought j))
       where
-        nought : (j : ℕ) → get_or (line_row none) j 0 ≡ 0
+        nought : (j : ℕ) → get_or (line_row None) j 0 ≡ 0
         nought zero = refl
         nought (suc zero) = refl
         nought (suc (suc zero)) = refl
@@ -189,20 +189,20 @@ taken_all last book n e r table long zeros =
         nought (suc (suc (suc (suc zero)))) = refl
         nought (suc (suc (suc (suc (suc j))))) = refl
 
-    go : (last : Bool) (i : ℕ) → all_lines last (λ i. none) (Option.get_or book.baseline []) i ≡ line_by last book i
-    go true i = last_of (Option.get_or book.baseline []) (λ i. none) i ∙ same (last_among (Option.get_or book.baseline []) i)
+    go : (last : Bool) (i : ℕ) → all_lines last (λ i. None) (unwrap_or book.baseline []) i ≡ line_by last book i
+    go true i = last_of (unwrap_or book.baseline []) (λ i. None) i ∙ same (last_among (unwrap_or book.baseline []) i)
       where
-        same : (o : Option BaselineLine) → or_else o none ≡ o
-        same none = refl
-        same (some x) = refl
-    go false i = first_of (Option.get_or book.baseline []) (λ i. none) i
+        same : (o : Option BaselineLine) → option_or o None ≡ o
+        same None = refl
+        same (Some x) = refl
+    go false i = first_of (unwrap_or book.baseline []) (λ i. None) i
 
 pub taken_length : (last : Bool) (table : List ℕ) (l : BaselineLine) → length (taken last table l) ≡ length table
 unfolding taken
 taken_length last table l = go (counts last (get_or table (l.activity * 5) 0))
   where
-    go : (b : Bool) → length (cond b (sets table (l.activity * 5) (line_row (some l))) table) ≡ length table
-    go true = length-sets table (l.activity * 5) (line_row (some l))
+    go : (b : Bool) → length (cond b (sets table (l.activity * 5) (line_row (Some l))) table) ≡ length table
+    go true = length-sets table (l.activity * 5) (line_row (Some l))
     go false = refl
 
 -- as the code does it: the five numbers set one behind the other, or nothing

@@ -1,7 +1,6 @@
 -- What planned value is made of: of each activity the span of its listed days and its calendar, as three numbers, row after row, and the budgets of the leaves.
-use Rattle.std.specs.Prelude.{ℕ, ◌+◌, ◌*◌, cond, eqb, ℤ, pos, get_or}
+use Rattle.std.specs.Prelude.{ℕ, ◌+◌, ◌*◌, cond, eqb, ℤ, pos, get_or, None, Option, Some}
 use mathlib.Core.List.{List, [], ◌∷◌, map, flat_map}
-use Rattle.std.proofs.Math.Option.{Option, none, some}
 use Rattle.format.specs.Book.{BaselineLine, Book}
 use Rattle.model.specs.Lookup.{activity_at}
 use Rattle.model.specs.Tree.{parents, indices, is_leaf}
@@ -12,8 +11,8 @@ use Rattle.spans.specs.Columns.{calendar_number}
 
 -- what the line says, else x
 abbrev pub by_line : {A : Type 0} → (BaselineLine → A) → Option BaselineLine → A → A
-by_line f none x = x
-by_line f (some line) x = f line
+by_line f None x = x
+by_line f (Some line) x = f line
 
 abbrev pub start_of : BaselineLine → ℕ
 start_of line = line.start

@@ -1,6 +1,5 @@
 // The lines of the baseline: of each activity the one that counts, as five numbers.
-ghost use Rattle.std.specs.Prelude.{ℕ, ◌+◌, ◌*◌, ◌<◌, ◌≡◌, List, [], length};
-ghost use Rattle.std.proofs.Math.Option.{get_or};
+ghost use Rattle.std.specs.Prelude.{ℕ, ◌+◌, ◌*◌, ◌<◌, ◌≡◌, List, [], length, unwrap_or};
 ghost use Rattle.format.specs.Format as layout;
 ghost use Rattle.format.specs.Verdict.{content};
 ghost use Rattle.records.specs.Decoded.{baseline_line_of};
@@ -27,7 +26,7 @@ pub const COST: usize = 4;
 
 // The lines of a baseline: none without one.
 pub fn lines_of(baseline: Baseline) -> Section
-    ensures { (s : List ℕ) (n : ℕ) → get_or (lines_of s n baseline) [] ≡ alike_in (layout.baseline_line n) s result }
+    ensures { (s : List ℕ) (n : ℕ) → unwrap_or (lines_of s n baseline) [] ≡ alike_in (layout.baseline_line n) s result }
 {
     if baseline.present {
         return baseline.lines;

@@ -1,11 +1,10 @@
 -- The plan of an accepted book, from its layout.
+use Rattle.std.specs.Prelude.{None, Option, Some, unwrap_or, ℕ, Ok}
 use Prim.Native.Nat.{ℕ, ◌≤◌}
 use native.Mathlib.Omega.{arith}
 use mathlib.Core.Path.{◌≡◌, ap, sym, ◌∙◌}
 use mathlib.Core.List.{List, []}
-use mathlib.Core.Option.{Option, none, some, get_or}
 use lib.ListN.{length}
-use Rattle.format.specs.declared.Pos.TheVariants.{At}
 use Rattle.format.specs.Bytes.{Bytes}
 use Rattle.format.specs.Inverse.{Given}
 use Rattle.format.specs.Codec.{Codec, stay}
@@ -14,7 +13,6 @@ use Rattle.format.specs.Verdict.{content, verdict}
 use Rattle.format.specs.InRange.{Every, ActivityInRange, AssignmentInRange, ExpenseInRange, BaselineLineInRange, BaselineInRange, BudgetInRange, BudgetChangeInRange, PeriodRecordInRange}
 use Rattle.format.proofs.Walks.{times_length}
 use Rattle.format.proofs.Theorems.{verdict_accepts, content_limits, content_in_range}
-use Rattle.fields.specs.declared.OptionalNumber.{OptionalNumber}
 use Rattle.sections.specs.declared.Section.{Section}
 use Rattle.book.specs.declared.layout.Plan.{Plan}
 use Rattle.book.specs.declared.layout.Ledger.{Ledger}
@@ -54,7 +52,7 @@ module _ (s : List ℕ) (r : Layout) (l : IsLayout s r) where
   unfolding book_of
   forecast_of_lem = sym (ap (λ (b : Book). b.forecast) same)
 
-  module _ (j : ℕ) (accepted : verdict s ≡ At j) where
+  module _ (j : ℕ) (accepted : verdict s ≡ Ok j) where
     pub plan_of : Bytes s → IsPlanOf s r.header.date r.plan
     unfolding book_of
     plan_of bytes =
@@ -71,9 +69,9 @@ module _ (s : List ℕ) (r : Layout) (l : IsLayout s r) where
 -- ---- counts
 
 -- the lines of a baseline that may be absent
-lines_range : (n : ℕ) (o : Option (List BaselineLine)) → Given (BaselineInRange n) o → Every (BaselineLineInRange n) (get_or o [])
-lines_range n none h = λ k d l. absurd (omega arith)
-lines_range n (some l) h = h.lines
+lines_range : (n : ℕ) (o : Option (List BaselineLine)) → Given (BaselineInRange n) o → Every (BaselineLineInRange n) (unwrap_or o [])
+lines_range n None h = λ k d l. absurd (omega arith)
+lines_range n (Some l) h = h.lines
 
 pub alike_length : {A : Type 0} (c : Codec A) (s : List ℕ) (r : Section) → length (alike_in c s r) ≡ r.count
 unfolding elements
@@ -82,7 +80,7 @@ alike_length c s r = times_length (λ x. c) stay s r.count tt r.first
 pub placed_count : {A : Type 0} {c : Codec A} {s : List ℕ} {l : Section} {xs : List A} → Placed c s l xs → length xs ≡ l.count
 placed_count {c} {s} {l} p = ap length p.listed ∙ alike_length c s l
 
-module _ {s : List ℕ} {date : OptionalNumber} {plan : Plan} (p : IsPlanOf s date plan) where
+module _ {s : List ℕ} {date : Option ℕ} {plan : Plan} (p : IsPlanOf s date plan) where
   pub calendars_count : length (content s).calendars ≡ plan.calendars.count
   calendars_count = placed_count p.calendars
 
@@ -127,7 +125,7 @@ module _ {s : List ℕ} {date : OptionalNumber} {plan : Plan} (p : IsPlanOf s da
   pub expenses_in_range : Every (ExpenseInRange plan.activities.count) (content s).expenses
   expenses_in_range = rw (← activities_count) (content_in_range s p.accepted).expenses
 
-  pub lines_in_range : Every (BaselineLineInRange plan.activities.count) (get_or (content s).baseline [])
+  pub lines_in_range : Every (BaselineLineInRange plan.activities.count) (unwrap_or (content s).baseline [])
   lines_in_range = rw (← activities_count) (lines_range _ (content s).baseline (content_in_range s p.accepted).baseline)
 
   pub budgets_in_range : Every (BudgetInRange plan.activities.count) (content s).budgets

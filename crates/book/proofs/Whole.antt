@@ -2,7 +2,6 @@
 use Prim.Native.Nat.{ℕ}
 use mathlib.Core.Path.{◌≡◌, ap, ◌∙◌}
 use mathlib.Core.List.{List}
-use Rattle.format.specs.declared.Pos.{Pos}
 use Rattle.format.specs.Book as book
 use Rattle.format.specs.Reader.{Reader, both}
 use Rattle.format.specs.Codec.{◌then◌, ◌&◌}
@@ -12,6 +11,7 @@ use Rattle.records.proofs.Parts.{iso_read}
 use Rattle.book.specs.declared.layout.Layout.{Layout}
 use Rattle.book.specs.Layout.{IsLayout, book_of}
 use Rattle.sections.proofs.Lists.{list_read, up_to_read, counted_read}
+use Rattle.format.specs.Position.{Pos}
 
 -- one, then another
 then_read :

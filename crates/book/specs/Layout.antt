@@ -1,26 +1,24 @@
 -- The layout of the book: where its lists are, and the book that it lays out.
-use Rattle.std.specs.Prelude.{ℕ, ◌≡◌, cond, List, [], ◌∷◌}
-use Rattle.std.proofs.Math.Option.{Option, none, some}
-use Rattle.format.specs.declared.Pos.{Pos}
+use Rattle.std.specs.Prelude.{ℕ, ◌≡◌, cond, List, [], ◌∷◌, None, Option, Some}
 use Rattle.format.specs.Field.{U, D}
 use Rattle.format.specs.Codec.{field, O, ◌&◌, marked, up_to}
 use Rattle.format.specs.Enumeration.{technique, forecast}
 use Rattle.format.specs.Book as book
 use Rattle.format.specs.Format as layout
 use Rattle.format.specs.Verdict.{begin, end}
-use Rattle.fields.specs.Optional.{number_option}
 use Rattle.book.specs.declared.layout.Header.{Header}
 use Rattle.book.specs.declared.layout.Plan.{Plan}
 use Rattle.book.specs.declared.layout.Baseline.{Baseline}
 use Rattle.book.specs.declared.layout.Ledger.{Ledger}
 use Rattle.book.specs.declared.layout.Layout.{Layout}
 use Rattle.sections.specs.Sections.{IsList, IsAlike, elements, alike_in}
+use Rattle.format.specs.Position.{Pos}
 
 -- ---- where the lists are: each begins where the one before it ends
 
 abbrev pub IsHeader : List ℕ → Pos → Header → Type 0
 IsHeader s p r =
-    ((r.edition, (number_option r.date, (r.technique, r.forecast))), r.next)
+    ((r.edition, (r.date, (r.technique, r.forecast))), r.next)
     ≡ (field (U 1 1) & O D & technique & forecast).read s p
 
 pub record IsPlan (s : List ℕ) (p : Pos) (r : Plan) : Type 0 where
@@ -31,7 +29,7 @@ pub record IsPlan (s : List ℕ) (p : Pos) (r : Plan) : Type 0 where
   pub expenses : IsAlike 0 1000 (layout.expense r.activities.count) s r.assignments.next r.expenses
 
 unfoldable pub lines_of : List ℕ → ℕ → Baseline → Option (List book.BaselineLine)
-lines_of s activities b = cond b.present (some (alike_in (layout.baseline_line activities) s b.lines)) none
+lines_of s activities b = cond b.present (Some (alike_in (layout.baseline_line activities) s b.lines)) None
 
 abbrev pub IsBaseline : List ℕ → ℕ → Pos → Baseline → Type 0
 IsBaseline s activities p r = (lines_of s activities r, r.next) ≡ (marked (up_to 1000 (layout.baseline_line activities))).read s p
@@ -58,7 +56,7 @@ book_of s l =
     let ledger = l.ledger in
     let activities = plan.activities.count in
     record {
-      data_date = number_option l.header.date;
+      data_date = l.header.date;
       technique = l.header.technique;
       forecast = l.header.forecast;
       calendars = alike_in layout.calendar s plan.calendars;

@@ -1,12 +1,10 @@
 -- The plan of an accepted book: the content's lists are what stands at its places.
-use Rattle.std.specs.Prelude.{ℕ, ◌≡◌, List, [], ◌∷◌}
+use Rattle.std.specs.Prelude.{ℕ, ◌≡◌, List, [], ◌∷◌, Option}
 use Rattle.format.specs.Field.{D}
 use Rattle.format.specs.Codec.{Codec, field}
 use Rattle.format.specs.Book.{Budget}
 use Rattle.format.specs.Format as layout
 use Rattle.format.specs.Verdict.{content, Accepted}
-use Rattle.fields.specs.declared.OptionalNumber.{OptionalNumber}
-use Rattle.fields.specs.Optional.{number_option}
 use Rattle.sections.specs.declared.Section.{Section}
 use Rattle.book.specs.declared.layout.Plan.{Plan}
 use Rattle.book.specs.declared.layout.Baseline.{Baseline}
@@ -19,9 +17,9 @@ pub record Placed {A : Type 0} (c : Codec A) (s : List ℕ) (l : Section) (xs : 
   pub listed : xs ≡ alike_in c s l
 
 -- s is an accepted book, with this data date and this plan
-pub record IsPlanOf (s : List ℕ) (date : OptionalNumber) (plan : Plan) : Type 0 where
+pub record IsPlanOf (s : List ℕ) (date : Option ℕ) (plan : Plan) : Type 0 where
   pub accepted : Accepted s
-  pub data_date : (content s).data_date ≡ number_option date
+  pub data_date : (content s).data_date ≡ date
   pub calendars : Placed layout.calendar s plan.calendars (content s).calendars
   pub activities : Placed (layout.activity plan.calendars.count plan.activities.count) s plan.activities (content s).activities
   pub resources : Placed layout.resource s plan.resources (content s).resources

@@ -1,14 +1,13 @@
 // The layout of the whole book, and the verdict on it.
 ghost use Rattle.std.specs.Prelude.{◌≡◌, ◌≤◌};
-ghost use Rattle.format.specs.declared.Pos.{Pos};
 ghost use Rattle.format.specs.Book.{Book};
 ghost use Rattle.format.specs.Verdict as verdict;
 ghost use Rattle.book.specs.Layout.{IsHeader, IsPlan, IsBaseline, IsLedger, IsLayout, book_of};
+ghost use Rattle.format.specs.Position.{Pos};
 
-use fields::OptionalNumber;
 use fields::enumerations::forecast_of;
 use fields::kinds::{field, optional_date};
-use format::{Answer, BOOK_TOO_LONG, BYTES_LEFT, EtcTechnique, EvTechnique, OUT_OF_RANGE, Pos};
+use format::{EtcTechnique, EvTechnique, Pos, Reason, Refusal};
 use records::techniques::read_technique;
 use sections::Section;
 use sections::budgets::{read_amounts, read_budgets};
@@ -18,7 +17,7 @@ use sections::elements::{Element, read_activities, read_elements};
 #[derive(Clone, Copy)]
 pub struct Header {
     pub edition: u64,
-    pub date: OptionalNumber,
+    pub date: Option<u64>,
     pub technique: EvTechnique,
     pub forecast: EtcTechnique,
     pub next: Pos,
@@ -66,10 +65,10 @@ pub struct Layout {
 fn read_header(book: &[u8], at: Pos) -> Header
     ensures { IsHeader book.now at result }
 {
-    let edition = field(book, at, 1, 2, OUT_OF_RANGE);
+    let edition = field(book, at, 1, 2, Reason::OutOfRange);
     let date = optional_date(book, edition.next);
     let technique = read_technique(book, date.next);
-    let forecast = field(book, technique.next, 0, 4, OUT_OF_RANGE);
+    let forecast = field(book, technique.next, 0, 4, Reason::OutOfRange);
     Header {
         edition: edition.value,
         date: date.value,
@@ -108,7 +107,7 @@ fn read_plan(book: &[u8], at: Pos) -> Plan
 fn read_baseline(book: &[u8], at: Pos, activities: u64) -> Baseline
     ensures { IsBaseline book.now activities at result }
 {
-    let mark = field(book, at, 0, 2, OUT_OF_RANGE);
+    let mark = field(book, at, 0, 2, Reason::OutOfRange);
     if mark.value == 1 {
         let line = Element::BaselineLine { activities };
         let lines = read_elements(book, mark.next, line, 0, 1000);
@@ -161,24 +160,26 @@ fn begin(book: &[u8]) -> Pos
     ensures { result ≡ verdict.begin book.now }
 {
     if 60000 < book.len() {
-        return Pos::Refused(BOOK_TOO_LONG, 0);
+        return Err(Refusal {
+            reason: Reason::BookTooLong,
+            place: 0,
+        });
     }
-    Pos::At(0)
+    Ok(0)
 }
 
 // The last position, unless bytes are left.
 fn end(book: &[u8], at: Pos) -> Pos
     ensures { result ≡ verdict.end book.now at }
 {
-    match at {
-        Pos::At(i) => {
-            if i < book.len() {
-                return Pos::Refused(BYTES_LEFT, i);
-            }
-            Pos::At(i)
-        }
-        Pos::Refused(e, p) => Pos::Refused(e, p),
+    let i = at?;
+    if i < book.len() {
+        return Err(Refusal {
+            reason: Reason::BytesLeft,
+            place: i,
+        });
     }
+    Ok(i)
 }
 
 // The layout of the book: at its places stands the content, and its end is the verdict.
@@ -197,20 +198,10 @@ pub fn read_layout(book: &[u8]) -> Layout
     }
 }
 
-// What is answered at the end.
-fn answer(at: Pos) -> Answer
-    ensures { result ≡ verdict.answer_of at }
-{
-    match at {
-        Pos::At(_) => Answer::Accepted,
-        Pos::Refused(e, p) => Answer::Refused(e, p),
-    }
-}
-
 // Whether the book is accepted, or its refusal.
-pub fn judge(book: &[u8]) -> Answer
+pub fn judge(book: &[u8]) -> Result<(), Refusal>
     ensures { result ≡ verdict.answer_of (verdict.verdict book.now) }
 {
-    let layout = read_layout(book);
-    answer(layout.end)
+    read_layout(book).end?;
+    Ok(())
 }

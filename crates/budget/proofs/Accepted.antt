@@ -1,4 +1,5 @@
 -- An accepted book: its budgets and its log, its parents, and what its lists need.
+use Rattle.std.specs.Prelude.{Option, ℕ}
 use Prim.Native.Nat.{ℕ}
 use native.Mathlib.Omega.{arith}
 use mathlib.Core.Path.{◌≡◌, sym, ◌∙◌}
@@ -7,7 +8,6 @@ use lib.ListN.{length}
 use Rattle.format.specs.Book.{Book}
 use Rattle.format.specs.Verdict.{content}
 use Rattle.format.proofs.Theorems.{content_in_range}
-use Rattle.fields.specs.declared.OptionalNumber.{OptionalNumber}
 use Rattle.book.specs.declared.layout.Plan.{Plan}
 use Rattle.book.specs.declared.layout.Ledger.{Ledger}
 use Rattle.book.specs.Plan.{IsPlanOf, IsLedgerOf}
@@ -22,7 +22,7 @@ use Rattle.ledger.proofs.Handed.{above_length}
 pub numbers_parents : {book : Book} {numbers : List ℕ} → AreParents book numbers → length numbers ≡ length (parents book)
 numbers_parents {book} w = above_length w ∙ sym (Named-count book)
 
-module _ {s : List ℕ} {date : OptionalNumber} {plan : Plan} (p : IsPlanOf s date plan) where
+module _ {s : List ℕ} {date : Option ℕ} {plan : Plan} (p : IsPlanOf s date plan) where
   pub parents_count : length (parents (content s)) ≡ plan.activities.count
   parents_count = Named-count (content s) ∙ activities_count p
 

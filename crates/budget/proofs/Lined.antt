@@ -1,9 +1,9 @@
 -- The rows of the lines, and how many there are.
+use Rattle.std.specs.Prelude.{None, Some}
 use Prim.Native.Nat.{ℕ, ◌+◌, ◌*◌, ◌<◌}
 use native.Mathlib.Omega.{arith}
 use mathlib.Core.Path.{◌≡◌, refl, sym, ap, ◌∙◌}
 use mathlib.Core.List.{List, [], ◌∷◌, map, flat_map, foldl}
-use mathlib.Core.Option.{none, some}
 use lib.IntN.{ℤ, pos}
 use lib.ListN.{length, length-map}
 use Rattle.format.specs.Book.{Activity, Book}
@@ -36,7 +36,7 @@ module _ (book : Book) where
   pub lines_count : (marks : List ℕ) (n : ℕ) → n ≡ length (parents book) → MarksLines marks book → length (budget_lines book) ≡ length (marked_of marks n) + 1
   unfolding budget_lines
   lines_count marks n e m =
-      let line : ℕ → BudgetLine = λ (i : ℕ). line_for book (some i) (depth_of book i) (cost_of book i).budget in
+      let line : ℕ → BudgetLine = λ (i : ℕ). line_for book (Some i) (depth_of book i) (cost_of book i).budget in
       omega (arith, length-map (line_accounts book) line, ap length (marked_accounts book marks n e m))
 
   -- the rows that the code puts
@@ -59,7 +59,7 @@ module _ (book : Book) where
     unfolding project_cost leaves span keep
     no_cost_lem = sym (ap (λ (ps : List _). (foldl sum_of no_cost (map (cost_of book) (leaves ps))).budget) no_parents)
 
-    pub alone : {table : List ℤ} → table ≡ booked book → line_in table none 0 (pos 0) ∷ [] ≡ budget_lines book
+    pub alone : {table : List ℤ} → table ≡ booked book → line_in table None 0 (pos 0) ∷ [] ≡ budget_lines book
     unfolding lines_in span keep parents_of
     alone t =
         lines_are book [] [] [] (sym (ap length no_parents)) (omega (arith, ap length no_parents)) (sym no_parents) (λ i h. absurd (omega (arith, ap length no_parents)))

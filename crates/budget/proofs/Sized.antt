@@ -1,4 +1,5 @@
 -- How many rows each call has, and how many numbers.
+use Rattle.std.specs.Prelude.{Ok}
 use Prim.Native.Nat.{ℕ, ◌≤◌}
 use mathlib.Core.Path.{◌≡◌, refl, sym}
 use mathlib.Core.List.{List, [], ◌∷◌, flat_map}
@@ -8,7 +9,6 @@ use Rattle.format.specs.Book.{Book}
 use Rattle.model.specs.Budgets.{budget_lines, funded, not_covered}
 use Rattle.money.specs.Words.{bits}
 use Rattle.rows.specs.Rows.{numbers}
-use Rattle.answers.specs.declared.Reply.TheVariants.{Accepted}
 use Rattle.answers.specs.Rows.{budget_row, budget_rows, funding_row, funding_rows}
 use Rattle.answers.specs.Calls.{Puts}
 use Rattle.answers.proofs.Sized.{Sized, sized, one_sized, in_front}
@@ -24,7 +24,7 @@ funding_sized book = one_sized (funding_row book) 2 refl
 
 -- the funding's two numbers, set in front
 pub funding_put :
-    (book : Book) (out : List ℕ) (x y : ℕ) → x ≡ bits (funded book) → y ≡ bits (not_covered book) → 2 ≤ length out → Puts (funding_rows book) out (Accepted 1) (set (set out 0 x) 1 y)
+    (book : Book) (out : List ℕ) (x y : ℕ) → x ≡ bits (funded book) → y ≡ bits (not_covered book) → 2 ≤ length out → Puts (funding_rows book) out (Ok 1) (set (set out 0 x) 1 y)
 unfolding funding_rows funding_row numbers flat_map
 funding_put book [] x y e f h = absurd (omega arith)
 funding_put book (u ∷ []) x y e f h = absurd (omega arith)

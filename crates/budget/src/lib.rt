@@ -28,14 +28,14 @@ fn put_alone(book: &[u8], opened: Opened, out: &mut [u64]) -> Reply
     ensures { Puts (budget_rows (content book.now)) out.old result out.new }
 {
     if out.len() < 10 {
-        return Reply::Refused(TOO_SHORT, 0);
+        return Err(TOO_SHORT);
     }
     let mut accounts = [0i64; 3006];
     let mut marks = [0u64; 501];
     let activities = opened.plan.activities.count;
     take_ledger(book, activities, opened.ledger, &mut accounts, &mut marks);
     put_project(0, &accounts, &mut out[..10]);
-    Reply::Accepted(1)
+    Ok(1)
 }
 
 // A row for each line of the budget, where they fit: the budgets and the log are read once.
@@ -55,12 +55,12 @@ pub fn funding_of(book: &[u8], opened: Opened, out: &mut [u64]) -> Reply
     ensures { Puts (funding_rows (content book.now)) out.old result out.new }
 {
     if out.len() < 2 {
-        return Reply::Refused(TOO_SHORT, 0);
+        return Err(TOO_SHORT);
     }
     let date = opened.date;
     let funded = sum_amounts(book, opened.ledger.funds);
     let current = project_current(book, date, opened.plan, opened.ledger);
     out[0] = to_bits(funded);
     out[1] = to_bits(saturating_sub(current, funded));
-    Reply::Accepted(1)
+    Ok(1)
 }

@@ -100,7 +100,7 @@ fn lines_in(
     let count = hand_lines(book, opened, schedule, parents, &mut accounts, &mut marks);
     let n = count as usize * 10;
     if out.len() < n {
-        return Reply::Refused(TOO_SHORT, 0);
+        return Err(TOO_SHORT);
     }
     put_in(
         book,
@@ -112,7 +112,7 @@ fn lines_in(
         costs,
         &mut out[..n],
     );
-    Reply::Accepted(count)
+    Ok(count)
 }
 
 // The same, with arrays of its own.

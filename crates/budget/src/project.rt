@@ -1,10 +1,8 @@
 // The project's own budget: what was first approved, and the approved changes.
 ghost use Rattle.std.specs.Prelude.{◌≡◌, replicate};
-ghost use Rattle.std.proofs.Math.Option.{none};
 ghost use Rattle.format.specs.declared.ChangeStatus.TheVariants.{Approved};
 ghost use Rattle.format.specs.Format.{names};
 ghost use Rattle.format.specs.Verdict.{content};
-ghost use Rattle.fields.specs.Optional.{number_option};
 ghost use Rattle.records.specs.Decoded.{budget_change_of};
 ghost use Rattle.book.specs.Plan.{IsPlanOf, IsLedgerOf};
 ghost use Rattle.model.specs.Budgets.{same_status, budget_for, changes, current_of};
@@ -12,7 +10,6 @@ ghost use Rattle.budget.specs.Project.{added_to};
 ghost use Rattle.ledger.specs.Arguments.{IsBudgets, IsLog};
 
 use book::layout::{Ledger, Plan};
-use fields::OptionalNumber;
 use format::ChangeStatus;
 use ledger::accounts::account_number;
 use ledger::budgets::next_budget;
@@ -21,12 +18,12 @@ use money::sums::saturating_add;
 use records::budgets::{BudgetChange, read_budget_change};
 use sections::Section;
 
-fn is_project(account: OptionalNumber) -> bool
-    ensures { result ≡ names (number_option account) none }
+fn is_project(account: Option<u64>) -> bool
+    ensures { result ≡ names account None }
 {
     match account {
-        OptionalNumber::Absent => true,
-        OptionalNumber::Present(_) => false,
+        None => true,
+        Some(_) => false,
     }
 }
 
@@ -40,7 +37,7 @@ fn is_approved(status: ChangeStatus) -> bool
 fn project_original(book: &[u8], list: Section, activities: u64, marks: &mut [u64; 501]) -> i64
     requires budgets { IsBudgets book.now list activities }
     requires marks_value { marks.old ≡ replicate 501 0 }
-    ensures { result ≡ (budget_for (content book.now) none).original }
+    ensures { result ≡ (budget_for (content book.now) None).original }
 {
     let count = list.count;
     let mut next = list.first;
@@ -57,7 +54,7 @@ fn project_original(book: &[u8], list: Section, activities: u64, marks: &mut [u6
 
 // The sum with a change added, if it is an approved one of the project.
 fn add_change(sum: i64, change: BudgetChange) -> i64
-    ensures { result ≡ added_to none Approved sum (budget_change_of change) }
+    ensures { result ≡ added_to None Approved sum (budget_change_of change) }
 {
     if is_project(change.activity) {
         if is_approved(change.status) {
@@ -70,7 +67,7 @@ fn add_change(sum: i64, change: BudgetChange) -> i64
 // Its approved changes, added up.
 fn project_changes(book: &[u8], list: Section, activities: u64) -> i64
     requires { IsLog book.now list activities }
-    ensures { result ≡ changes (content book.now) Approved none }
+    ensures { result ≡ changes (content book.now) Approved None }
 {
     let count = list.count;
     let mut next = list.first;
@@ -84,10 +81,10 @@ fn project_changes(book: &[u8], list: Section, activities: u64) -> i64
 }
 
 // Its current budget.
-pub fn project_current(book: &[u8], date: OptionalNumber, plan: Plan, ledger: Ledger) -> i64
+pub fn project_current(book: &[u8], date: Option<u64>, plan: Plan, ledger: Ledger) -> i64
     requires plan_of { IsPlanOf book.now date plan }
     requires ledger_of { IsLedgerOf book.now plan ledger }
-    ensures { result ≡ current_of (content book.now) none }
+    ensures { result ≡ current_of (content book.now) None }
 {
     let mut marks = [0u64; 501];
     let original = project_original(book, ledger.budgets, plan.activities.count, &mut marks);

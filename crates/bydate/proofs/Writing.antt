@@ -1,4 +1,5 @@
 -- Rows of points: how many numbers they are, what a loop keeps that writes them, and what is answered with them.
+use Rattle.std.specs.Prelude.{Ok}
 use Prim.Native.Nat.{ℕ, suc, ◌+◌, ◌*◌, ◌/◌, ◌^◌, ◌≤◌, ◌<◌}
 use mathlib.Core.Path.{◌≡◌, refl, sym, ap, ◌∙◌, subst}
 use mathlib.Core.Bool.{Bool, true, false}
@@ -14,13 +15,14 @@ use Rattle.rows.specs.Rows.{numbers}
 use Rattle.lists.specs.Lists.{cons_if, keep}
 use Rattle.model.specs.Days.{dates_between}
 use Rattle.model.specs.Amounts.{Dated, on}
-use Rattle.answers.specs.declared.Reply.{Reply}
-use Rattle.answers.specs.declared.Reply.TheVariants.{Accepted, Refused}
 use Rattle.answers.specs.Rows.{point_row, point_rows}
 use Rattle.answers.specs.Calls.{Puts}
 use Rattle.answers.proofs.Sized.{Sized, sized, no_room, in_front}
 use Rattle.bydate.specs.Pointed.{is_marked, sum_on, points_in, row_if}
+use Rattle.format.specs.declared.Reason.TheVariants.{TooShort}
+use Rattle.format.specs.Position.{refused}
 use Rattle.laid.proofs.Dates.{one_first, none_left}
+use Rattle.answers.specs.Reply.{Reply}
 
 -- ---- one row
 
@@ -116,21 +118,21 @@ module _ (xs : List Dated) (out : List ℕ) where
   rows_length : length (point_rows xs) ≡ length xs * 2
   rows_length = sym (ap length (numbers_flat xs)) ∙ points_sized.long
 
-  pub points_short : length out < length (point_rows xs) → Puts (map point_row xs) out (Refused 10 0) out
+  pub points_short : length out < length (point_rows xs) → Puts (map point_row xs) out (refused TooShort 0) out
   points_short h = no_room (map point_row xs) out points_sized (omega (arith, rows_length))
 
-  pub points_put : {n : ℕ} → n ≡ length (point_rows xs) → n ≤ length out → {after : List ℕ} → after ≡ sets out 0 (point_rows xs) → Puts (map point_row xs) out (Accepted (n / 2)) after
+  pub points_put : {n : ℕ} → n ≡ length (point_rows xs) → n ≤ length out → {after : List ℕ} → after ≡ sets out 0 (point_rows xs) → Puts (map point_row xs) out (Ok (n / 2)) after
   points_put {n} e h {after} a =
       let half : length xs ≡ n / 2 = omega (arith, rows_length) in
       let room : length xs * 2 ≤ length out = omega (arith, rows_length) in
       let fits : 0 + length (point_rows xs) ≤ length out = omega arith in
       let at : 0 + length (point_rows xs) ≡ length xs * 2 = omega (arith, rows_length) in
       let is : point_rows xs ++ drop (length xs * 2) out ≡ after = sym (a ∙ sets-eq (point_rows xs) out 0 fits ∙ ap (λ (k : ℕ). point_rows xs ++ drop k out) at) in
-      subst (λ (l : List ℕ). Puts (map point_row xs) out (Accepted (n / 2)) l) is
-      (subst (λ (k : ℕ). Puts (map point_row xs) out (Accepted k) (point_rows xs ++ drop (length xs * 2) out)) half
+      subst (λ (l : List ℕ). Puts (map point_row xs) out (Ok (n / 2)) l) is
+      (subst (λ (k : ℕ). Puts (map point_row xs) out (Ok k) (point_rows xs ++ drop (length xs * 2) out)) half
       (in_front (map point_row xs) out points_sized room (point_rows xs) (sym (numbers_flat xs))))
 
-  pub nothing_points : xs ≡ [] → Puts (map point_row xs) out (Accepted 0) out
+  pub nothing_points : xs ≡ [] → Puts (map point_row xs) out (Ok 0) out
   unfolding point_rows flat_map
   nothing_points e = points_put {n = 0} (sym (ap (λ (l : List Dated). length (point_rows l)) e)) (omega arith) (sym (ap (λ (l : List Dated). sets out 0 (point_rows l)) e))
 

@@ -83,8 +83,8 @@ pub fn write_months(base: u64, from: u64, to: u64, table: &[u64], out: &mut [u64
     let mut nothing = [0u64; 0];
     let n = put_months(base, from, to, &days, table, &mut nothing);
     if out.len() < n {
-        return Reply::Refused(TOO_SHORT, 0);
+        return Err(TOO_SHORT);
     }
     put_months(base, from, to, &days, table, out);
-    Reply::Accepted(n as u64 / 2)
+    Ok(n as u64 / 2)
 }

@@ -61,8 +61,8 @@ pub fn write_points(base: u64, from: u64, to: u64, table: &[u64], out: &mut [u64
     let mut nothing = [0u64; 0];
     let n = put_points(base, from, to, table, &mut nothing);
     if out.len() < n {
-        return Reply::Refused(TOO_SHORT, 0);
+        return Err(TOO_SHORT);
     }
     put_points(base, from, to, table, out);
-    Reply::Accepted(n as u64 / 2)
+    Ok(n as u64 / 2)
 }

@@ -1,23 +1,22 @@
 -- What a table of days shows after dates of it were set, one after the other.
+use Rattle.std.specs.Prelude.{None, Option, Some, unwrap_or}
 use Prim.Native.Nat.{ℕ, suc, ◌+◌, ◌-◌, ◌≤◌, ◌<◌}
 use mathlib.Core.Path.{◌≡◌, refl, ap, ◌∙◌}
 use mathlib.Core.Bool.{Bool, true, false, not, cond, ◌&&◌, ◌||◌}
 use mathlib.Core.List.{List, [], ◌∷◌, map}
-use mathlib.Core.Option
-use mathlib.Core.Option.{Option, none, some}
 use native.Mathlib.Omega.{arith}
 use borrow.Author.Tests.{le-leb, leb-true, eqb-true, eqb-false, ne_eqb}
 use lib.Dec.{eqb, leb}
 use lib.ListN.{length, get_or, set, length-set}
 use lib.Seq.{get_or-set_same, get_or-set_other}
 use Rattle.lists.specs.Lists.{any}
-use Rattle.format.specs.declared.Pos.{Pos}
 use Rattle.format.specs.Reader.{many}
 use Rattle.format.specs.Codec.{Codec, times}
 use Rattle.format.specs.Book.{Exception, Calendar}
 use Rattle.format.specs.InRange.{Rising, CalendarInRange}
 use Rattle.model.specs.Calendar.{is_listed, exception_on, is_region_holiday, usually_works, is_working}
 use Rattle.calendar.specs.Tables.{usual, entry, one, Shows, marked, overlaid}
+use Rattle.format.specs.Position.{Pos}
 
 -- ---- one date
 
@@ -85,22 +84,22 @@ listed works date (d ∷ ds) b = listed works date ds (cond (eqb date d) works b
 abbrev day_of : Exception → ℕ
 day_of e = e.day
 
-none_later : (date : ℕ) (es : List Exception) → ((k : ℕ) → k < length (map day_of es) → date < get_or (map day_of es) k 0) → exception_on es date ≡ none
+none_later : (date : ℕ) (es : List Exception) → ((k : ℕ) → k < length (map day_of es) → date < get_or (map day_of es) k 0) → exception_on es date ≡ None
 unfolding exception_on
 none_later date [] h = refl
 none_later date (e ∷ es) h = rw (ne_eqb date e.day (λ q. omega (arith, h 0 (omega arith)))) (none_later date es (λ k l. h (suc k) (omega arith)))
 
-excepted : (date : ℕ) (es : List Exception) (b : Bool) → Rising (map day_of es) → last_on day_of (λ e. e.working) date es b ≡ Option.get_or (exception_on es date) b
+excepted : (date : ℕ) (es : List Exception) (b : Bool) → Rising (map day_of es) → last_on day_of (λ e. e.working) date es b ≡ unwrap_or (exception_on es date) b
 unfolding exception_on
 excepted date [] b r = refl
 excepted date (e ∷ es) b r = go (eqb date e.day) refl (λ d. excepted date es d (λ j k h l. r (suc j) (suc k) (omega arith) (omega arith)))
   where
     go :
-        (t : Bool) → eqb date e.day ≡ t → ((d : Bool) → last_on day_of (λ e. e.working) date es d ≡ Option.get_or (exception_on es date) d) →
-        last_on day_of (λ e. e.working) date es (cond t e.working b) ≡ Option.get_or (cond t (some e.working) (exception_on es date)) b
+        (t : Bool) → eqb date e.day ≡ t → ((d : Bool) → last_on day_of (λ e. e.working) date es d ≡ unwrap_or (exception_on es date) d) →
+        last_on day_of (λ e. e.working) date es (cond t e.working b) ≡ unwrap_or (cond t (Some e.working) (exception_on es date)) b
     go true q rest =
         rest e.working
-        ∙ ap (λ (o : Option Bool). Option.get_or o e.working) (none_later date es (λ k l. omega (arith, eqb-true date e.day q, r 0 (suc k) (omega arith) (omega arith))))
+        ∙ ap (λ (o : Option Bool). unwrap_or o e.working) (none_later date es (λ k l. omega (arith, eqb-true date e.day q, r 0 (suc k) (omega arith) (omega arith))))
     go false q rest = rest b
 
 -- ---- a calendar
@@ -142,7 +141,7 @@ shows_working c r from to {days} {free} {plain} {after} n s x y z = record { at 
         ∙ overlaid_is from day_of (λ e. e.working) date h c.exceptions plain (omega (arith, long_plain)) _ v
         ∙ ap one
         (excepted date c.exceptions _ r.exceptions.rising
-        ∙ ap (Option.get_or (exception_on c.exceptions date)) (in_order (is_listed c.extra_days date) (is_listed c.holidays date) (is_region_holiday c.region date) _))
+        ∙ ap (unwrap_or (exception_on c.exceptions date)) (in_order (is_listed c.extra_days date) (is_listed c.holidays date) (is_region_holiday c.region date) _))
 
 -- ---- a list that is read
 

@@ -10,13 +10,13 @@ use borrow.Author.Tests.{eqb-true, eqb-false}
 use lib.Dec.{eqb}
 use lib.ListN.{length, get_or, take, drop, take-append-drop, length-append, length-drop, get_or-append}
 use lib.Seq.{length-take-le, get_or-append-add, drop-cons}
-use Rattle.format.specs.declared.Pos.{Pos}
 use Rattle.format.specs.Reader.{many}
 use Rattle.format.specs.Codec.{Codec, times, alike}
 use Rattle.format.specs.Book.{Calendar}
 use Rattle.format.proofs.Walks.{times_length}
 use Rattle.model.specs.Calendar.{is_working}
 use Rattle.calendar.specs.Tables.{one, Shows}
+use Rattle.format.specs.Position.{Pos}
 
 -- ---- a list with a part of it replaced
 

@@ -1,30 +1,27 @@
 // The book's assignments: what each is booked to, its resource, and its units three ways.
-ghost use Rattle.std.specs.Prelude.{◌≡◌, ◌+◌, ◌*◌, ◌<◌, length};
+ghost use Rattle.std.specs.Prelude.{◌≡◌, ◌+◌, ◌*◌, ◌<◌, length, unwrap_or};
 ghost use mathlib.Core.List.{flat_map};
-ghost use Rattle.std.proofs.Math.Option.{get_or};
 ghost use Rattle.std.proofs.lemmas.List.Edits.{sets};
 ghost use Rattle.format.specs.Format as layout;
 ghost use Rattle.format.specs.Verdict.{content};
-ghost use Rattle.fields.specs.Optional.{number_option};
 ghost use Rattle.records.specs.Decoded.{assignment_of};
 ghost use Rattle.sections.specs.Sections.{alike_in};
 ghost use Rattle.book.specs.Plan.{IsPlanOf};
 ghost use Rattle.charges.specs.Assigned.{account_by, link_row, units_row, AreAssigned};
 
 use book::layout::Plan;
-use fields::OptionalNumber;
 use records::activities::{Assignment, read_assignment};
 use rows::put_row;
 use sections::Section;
 use spans::number_or;
 
 // What an assignment is booked to: 500, which is no activity, without a resource.
-fn account_of(resource: OptionalNumber, activity: u64) -> u64
-    ensures { result ≡ account_by (number_option resource) activity }
+fn account_of(resource: Option<u64>, activity: u64) -> u64
+    ensures { result ≡ account_by resource activity }
 {
     match resource {
-        OptionalNumber::Absent => 500,
-        OptionalNumber::Present(_) => activity,
+        None => 500,
+        Some(_) => activity,
     }
 }
 
@@ -54,7 +51,7 @@ fn fill_assignments(
 // The assignments of the plan of an accepted book.
 pub fn fill_assigned(
     book: &[u8],
-    data_date: OptionalNumber,
+    data_date: Option<u64>,
     plan: Plan,
     links: &mut [u64],
     units: &mut [i64],

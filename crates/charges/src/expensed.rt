@@ -11,7 +11,6 @@ ghost use Rattle.book.specs.Plan.{IsPlanOf};
 ghost use Rattle.charges.specs.Expensed.{accrual_row, amounts_row, AreExpensed};
 
 use book::layout::Plan;
-use fields::OptionalNumber;
 use records::activities::{Expense, read_expense};
 use rows::put_row;
 use sections::Section;
@@ -40,7 +39,7 @@ fn fill_expenses(
 // The expenses of the plan of an accepted book.
 pub fn fill_expensed(
     book: &[u8],
-    data_date: OptionalNumber,
+    data_date: Option<u64>,
     plan: Plan,
     accruals: &mut [u64],
     amounts: &mut [i64],

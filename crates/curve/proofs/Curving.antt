@@ -17,7 +17,6 @@ use Rattle.model.specs.Amounts.{Dated, is_between}
 use Rattle.model.specs.Planned.{planned_by_day, running, planned_curve_between}
 use Rattle.calendar.specs.Tables.{ShowsAll}
 use Rattle.spans.specs.declared.Stretch.{Stretch}
-use Rattle.answers.specs.declared.Reply.{Reply}
 use Rattle.answers.specs.Calls.{Puts}
 use Rattle.answers.specs.Rows.{point_row}
 use Rattle.laid.specs.Laid.{Laid}
@@ -35,6 +34,7 @@ use Rattle.curve.specs.Budgeted.{budgets_laid}
 use Rattle.curve.specs.Asking.{narrowed, IsAsked}
 use Rattle.curve.proofs.Narrow.{curve_none, curve_narrow, curve_from}
 use Rattle.curve.proofs.Planning.{planned_within, lists_planned}
+use Rattle.answers.specs.Reply.{Reply}
 
 module _ {s : List ℕ} {asked : Asked} {marks listed : List ℕ} {budgets : List ℤ} (a : IsAsked s asked marks listed budgets) where
   abbrev known : Stretch

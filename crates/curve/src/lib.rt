@@ -137,7 +137,7 @@ fn rows_of(
     let reach = reach_of(book, opened, listed, budgets);
     let asked = ask(reach, between);
     if asked.to < asked.from {
-        return Reply::Accepted(0);
+        return Ok(0);
     }
     if fits_small(reach.calendars.count, reach.known) {
         return sized_rows::<8192, 4096>(book, asked, marks, budgets, listed, out);
@@ -198,7 +198,7 @@ fn few_of(
     let reach = reach_of(book, opened, listed, budgets);
     let asked = ask(reach, between);
     if asked.to < asked.from {
-        return Reply::Accepted(0);
+        return Ok(0);
     }
     if reach.known.to < reach.known.from + 256 {
         return sized_rows::<4096, 512>(book, asked, marks, budgets, listed, out);
@@ -248,7 +248,7 @@ pub fn planned_curve_of(book: &[u8], opened: Opened, from: u64, to: u64, out: &m
     ensures { Puts (planned_curve_rows from to (content book.now)) out.old result out.new }
 {
     if opened.plan.activities.count == 0 {
-        return Reply::Accepted(0);
+        return Ok(0);
     }
     if opened.plan.activities.count <= FEW as u64 {
         return few_rows(book, opened, Stretch { from, to }, out);

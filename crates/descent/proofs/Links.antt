@@ -1,9 +1,9 @@
 -- The columns as they are made, from the last activity to the first: so far they chain the activities from i on.
+use Rattle.std.specs.Prelude.{None, Option, Some}
 use Prim.Native.Nat.{ℕ, suc, ◌+◌, ◌-◌, ◌≤◌, ◌<◌}
 use mathlib.Core.Path.{◌≡◌, refl, sym, ap, ap₂, ◌∙◌}
 use mathlib.Core.Bool.{Bool, true, false, cond}
 use mathlib.Core.List.{List, ◌∷◌}
-use mathlib.Core.Option.{Option, none, some}
 use native.Mathlib.Nat.{sub-zero}
 use native.Mathlib.Omega.{arith}
 use native.Mathlib.Decide.{ℕ_discrete}
@@ -134,14 +134,14 @@ module _ (numbers : List ℕ) where
   child : (p x : ℕ) → p < length numbers → eqb (place_of (length numbers) x) p ≡ names p (index_of (length numbers) x)
   child p x h = go (ltb x (length numbers))
     where
-      go : (b : Bool) → eqb (cond b x (length numbers)) p ≡ names p (cond b (some x) none)
+      go : (b : Bool) → eqb (cond b x (length numbers)) p ≡ names p (cond b (Some x) None)
       go true = refl
       go false = ne_eqb (length numbers) p (λ e. omega arith)
 
   top : (x : ℕ) → eqb (place_of (length numbers) x) (length numbers) ≡ is_none (index_of (length numbers) x)
   top x = go (ltb x (length numbers)) refl
     where
-      go : (b : Bool) → ltb x (length numbers) ≡ b → eqb (cond b x (length numbers)) (length numbers) ≡ is_none (cond b (some x) none)
+      go : (b : Bool) → ltb x (length numbers) ≡ b → eqb (cond b x (length numbers)) (length numbers) ≡ is_none (cond b (Some x) None)
       go true e = ne_eqb x (length numbers) (λ s. omega (arith, ltb-true x (length numbers) e))
       go false e = eq-eqb (length numbers) (length numbers) refl
 

@@ -1,23 +1,20 @@
 // How much of an activity is done, from 0 to 1, by the technique of the book.
-ghost use Rattle.std.specs.Prelude.{◌+◌, ◌*◌, ◌<◌, ◌≡◌, pos, length};
-ghost use Rattle.std.proofs.Math.Option.{get_or};
+ghost use Rattle.std.specs.Prelude.{◌+◌, ◌*◌, ◌<◌, ◌≡◌, pos, length, unwrap_or};
 ghost use Rattle.format.specs.InRange.{IsMinutes};
-ghost use Rattle.fields.specs.Optional.{amount_option};
 ghost use Rattle.model.specs.Earned as model;
 ghost use Rattle.activities.specs.Schedule.{entry_at};
 ghost use Rattle.earned.specs.Done.{done_in};
 
 use activities::schedule::{REMAINING, WORKING, entry, percent_at, status_at};
-use fields::OptionalAmount;
 use floats::{clamp01, ratio, share};
 use format::{EvTechnique, Status};
 
-fn amount_or_zero(amount: OptionalAmount) -> i64
-    ensures { result ≡ get_or (amount_option amount) (pos 0) }
+fn amount_or_zero(amount: Option<i64>) -> i64
+    ensures { result ≡ unwrap_or amount (pos 0) }
 {
     match amount {
-        OptionalAmount::Absent => 0,
-        OptionalAmount::Present(z) => z,
+        None => 0,
+        Some(z) => z,
     }
 }
 
@@ -32,8 +29,8 @@ fn by_duration(working: u64, remaining: u64) -> f64
 }
 
 // Before the work is marked started: a percent that was judged, and nothing else.
-fn unstarted(technique: EvTechnique, percent: OptionalAmount) -> f64
-    ensures { result ≡ model.unstarted technique (amount_option percent) }
+fn unstarted(technique: EvTechnique, percent: Option<i64>) -> f64
+    ensures { result ≡ model.unstarted technique percent }
 {
     match technique {
         EvTechnique::Physical => share(amount_or_zero(percent)),
@@ -48,14 +45,14 @@ fn unstarted(technique: EvTechnique, percent: OptionalAmount) -> f64
 // While the work is under way, with the activity's units done and in all.
 fn under_way(
     technique: EvTechnique,
-    percent: OptionalAmount,
+    percent: Option<i64>,
     working: u64,
     remaining: u64,
     done: i64,
     all: i64,
 ) -> f64
     requires { IsMinutes working × IsMinutes remaining }
-    ensures { result ≡ model.under_way technique (amount_option percent) working remaining done all }
+    ensures { result ≡ model.under_way technique percent working remaining done all }
 {
     match technique {
         EvTechnique::Physical => share(amount_or_zero(percent)),

@@ -9,7 +9,6 @@ ghost use Rattle.book.specs.Plan.{IsPlanOf};
 ghost use Rattle.earned.specs.Units as units;
 
 use book::layout::Plan;
-use fields::OptionalNumber;
 use format::EvTechnique;
 use money::sums::saturating_add;
 use records::activities::{Assignment, read_assignment};
@@ -52,7 +51,7 @@ fn add_assignments(book: &[u8], list: Section, activities: u64, resources: u64, 
 // The units done and in all of each activity, into a table of zeros, where the technique counts them.
 pub fn fill_units(
     book: &[u8],
-    data_date: OptionalNumber,
+    data_date: Option<u64>,
     plan: Plan,
     technique: EvTechnique,
     out: &mut [i64],

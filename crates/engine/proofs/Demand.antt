@@ -1,4 +1,5 @@
 -- The client's third demand over lent memory: what is read there are the definitions' figures, so the sentences hold of it.
+use Rattle.std.specs.Prelude.{Ok}
 use Prim.Native.Nat.{ℕ, ◌≤◌, ◌<◌}
 use mathlib.Core.Path.{◌≡◌, refl, ap, ap₂, ◌∙◌}
 use mathlib.Core.Bool.{Bool, true, cond}
@@ -11,8 +12,6 @@ use borrow.Author.Tests.{le-leb}
 use mir.Syntax.{w64}
 use mir.Val.{SFits}
 use Rattle.money.specs.Words.{bits, of_bits}
-use Rattle.format.specs.declared.Pos.{Pos}
-use Rattle.format.specs.declared.Pos.TheVariants.{At}
 use Rattle.format.specs.Book.{Book}
 use Rattle.format.specs.Bytes.{Bytes}
 use Rattle.format.specs.Verdict.{verdict, content}
@@ -32,14 +31,15 @@ use Rattle.model.proofs.EarnedValue.{earned_planned_fits, earned_budget_fits, pr
 use Rattle.model.proofs.Curve.{curve_fits}
 use Rattle.model.proofs.Demand.{Reads, planned_value_read}
 use Rattle.model.proofs.Tree.{parents_count}
-use Rattle.answers.specs.declared.Reply.TheVariants.{Accepted, Refused}
 use Rattle.answers.specs.Rows.{Rows, point_row, earned_width, earned_row, earned_value_rows, project_earned_rows, planned_curve_rows}
 use Rattle.answers.specs.Calls.{Condition, is_date, checked, Met, fitted, reply_at, reply_place, reply, left}
 use Rattle.answers.proofs.Replies.{met, none_asked}
 use Rattle.answers.proofs.Sized.{sized}
 use Rattle.answers.proofs.SizedEarned.{row_wide, values_sized, project_sized}
 use Rattle.answers.proofs.Accepted.{accepted_book, accepted_count, accepted_lent, number_is, figure_is}
+use Rattle.format.specs.declared.Reason.TheVariants.{TooShort}
 use Rattle.engine.specs.Demand.{number_at, point_in, LentAt, IsAccepted, at_date, between, earned_reply, project_reply, curve_reply, AllAccepted, HasRoom, HasCurveRoom, lent_reading, lent_curve}
+use Rattle.format.specs.Position.{Pos, refused}
 
 -- ---- the calls at a status date
 module _ (s : List ℕ) (at : LentAt) (k : ℕ) (l : k < earned_width) (f : Earned → ℤ) (put : (e : Earned) → get_or (earned_row e) k 0 ≡ bits (f e)) where
@@ -103,7 +103,7 @@ curve_read s to lent a =
 
 -- a call on an accepted book, whose conditions hold and whose rows fit
 pub accepted_call :
-    (conditions : List Condition) (rows : Book → Rows) (s : List ℕ) (lent : ℕ) {j : ℕ} → verdict s ≡ At j → Met conditions (content s) →
+    (conditions : List Condition) (rows : Book → Rows) (s : List ℕ) (lent : ℕ) {j : ℕ} → verdict s ≡ Ok j → Met conditions (content s) →
     length (numbers (rows (content s))) ≤ lent → IsAccepted (reply conditions rows s lent)
 unfolding reply fitted
 accepted_call conditions rows s lent v m h =
@@ -111,10 +111,10 @@ accepted_call conditions rows s lent v m h =
       n,
       ap (λ (p : Pos). reply_at p (checked conditions (content s) (fitted (rows (content s)) lent))) v
           ∙ m.passes (fitted (rows (content s)) lent)
-          ∙ ap (λ (b : Bool). cond b (Accepted n) (Refused 10 0)) (le-leb _ lent h),
+          ∙ ap (λ (b : Bool). cond b (Ok n) (refused TooShort 0)) (le-leb _ lent h),
     )
 
-module _ (s : List ℕ) {j : ℕ} (v : verdict s ≡ At j) where
+module _ (s : List ℕ) {j : ℕ} (v : verdict s ≡ Ok j) where
   dated : (date : ℕ) → is_date date ≡ true → Met (at_date date) (content s)
   dated date d = met d none_asked
 
@@ -165,7 +165,7 @@ planned_value_lent s bytes D E curve a tree small order =
 
 -- for every accepted book, with dates in range and enough lent
 pub planned_value_accepted :
-    (s : List ℕ) → Bytes s → {j : ℕ} → verdict s ≡ At j → (D E : LentAt) (curve : List ℕ) →
+    (s : List ℕ) → Bytes s → {j : ℕ} → verdict s ≡ Ok j → (D E : LentAt) (curve : List ℕ) →
     is_date D.date ≡ true → is_date E.date ≡ true → HasRoom s D → HasRoom s E → HasCurveRoom s E.date curve →
     NoOwnAncestor (content s) → SmallBudgets (content s) (lent_reading s D) → D.date ≤ E.date →
     PlannedValue (content s) (lent_reading s D) (lent_reading s E) (lent_curve s E.date curve)

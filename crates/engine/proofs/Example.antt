@@ -1,15 +1,13 @@
 -- The client's third demand on document 01's example: what it asks for is met, so that it says something.
+use Rattle.std.specs.Prelude.{None, Some, Ok}
 use Prim.Native.Nat.{ℕ, zero, suc, ◌*◌, ◌<◌}
 use mathlib.Core.Path.{◌≡◌, refl, sym, ap, ◌∙◌, subst}
 use mathlib.Core.Bool.{true}
 use mathlib.Core.List.{List, [], ◌∷◌}
-use mathlib.Core.Option.{none, some, none-ne-some, some-injective}
 use native.Mathlib.Omega.{arith}
 use lib.IntN.{pos}
 use lib.ListN.{length, get_or, replicate, length-replicate}
 use Rattle.integer.specs.Folds.{magnitudes}
-use Rattle.format.specs.declared.Pos.{Pos}
-use Rattle.format.specs.declared.Pos.TheVariants.{At}
 use Rattle.format.specs.Book.{Book}
 use Rattle.format.specs.Format as layout
 use Rattle.format.specs.Bytes.{Bytes}
@@ -28,6 +26,8 @@ use Rattle.answers.specs.Rows.{earned_width}
 use Rattle.answers.specs.Calls.{is_date}
 use Rattle.engine.specs.Demand.{LentAt, AllAccepted, HasRoom, HasCurveRoom, lent_reading, lent_curve}
 use Rattle.engine.proofs.Demand.{reads, all_accepted, planned_value_accepted}
+use Rattle.lists.proofs.Options.{none_ne_some, some_injective}
+use Rattle.format.specs.Position.{Pos}
 
 -- ---- the calls: at its data date and at the last date of all, with just as much lent as they need
 
@@ -37,8 +37,8 @@ lent_at date = record { date = date; earned = replicate (2 * earned_width) 0; pr
 abbrev curve : List ℕ
 curve = replicate 6 0
 
-accepted : verdict bytes ≡ At 67
-accepted = ap (λ (l : List Pos). get_or l 0 (At 0)) read_back.1
+accepted : verdict bytes ≡ Ok 67
+accepted = ap (λ (l : List Pos). get_or l 0 (Ok 0)) read_back.1
 
 written : Bytes bytes
 written i = subst (λ (s : List ℕ). get_or s i 0 < 256) example_written ((layout.book).bytes example i)
@@ -67,12 +67,12 @@ all = all_accepted bytes accepted (lent_at 19724) (lent_at 47481) curve dated.0 
 -- ---- activity 0 is the parent of 1, and none is its own ancestor
 
 abbrev tree : Parents
-tree = none ∷ some 0 ∷ []
+tree = None ∷ Some 0 ∷ []
 
-named : (i : ℕ) {q : ℕ} → parent_of tree i ≡ some q → (i ≡ 1) × (q ≡ 0)
-named zero {q} e = absurd (none-ne-some q e)
-named (suc zero) {q} e = (refl, sym (some-injective 0 q e))
-named (suc (suc i)) {q} e = absurd (none-ne-some q e)
+named : (i : ℕ) {q : ℕ} → parent_of tree i ≡ Some q → (i ≡ 1) × (q ≡ 0)
+named zero {q} e = absurd (none_ne_some q e)
+named (suc zero) {q} e = (refl, sym (some_injective 0 q e))
+named (suc (suc i)) {q} e = absurd (none_ne_some q e)
 
 below : {p i : ℕ} → Ancestor tree p i → (i ≡ 1) × (p ≡ 0)
 below {p} {i} (parent e) = named i e

@@ -1,4 +1,5 @@
 -- The outline over lent memory: what is read there are the outline's lines and the rows of earned value.
+use Rattle.std.specs.Prelude.{Ok}
 use Prim.Native.Nat.{ℕ, suc, ◌+◌, ◌*◌, ◌≤◌, ◌<◌}
 use mathlib.Core.Path.{◌≡◌, refl, sym, ap, ap₂, ◌∙◌, subst}
 use mathlib.Core.Bool.{true}
@@ -9,7 +10,6 @@ use Rattle.lists.specs.Lists.{span}
 use Rattle.lists.proofs.Lists.{map_same}
 use Rattle.lists.proofs.Spans.{span_in_lem, elements, made_at, made_length}
 use Rattle.format.specs.Bytes.{Bytes}
-use Rattle.format.specs.declared.Pos.TheVariants.{At}
 use Rattle.format.specs.Verdict.{verdict, content}
 use Rattle.format.proofs.Theorems.{content_in_range, verdict_accepts}
 use Rattle.model.specs.declared.Earned.{Earned}
@@ -87,7 +87,7 @@ outline_lent s bytes date lent values a v =
     }
 
 -- both calls are accepted on every accepted book, with a date in range and enough lent
-module _ (s : List ℕ) {j : ℕ} (v : verdict s ≡ At j) (date : ℕ) (d : is_date date ≡ true) where
+module _ (s : List ℕ) {j : ℕ} (v : verdict s ≡ Ok j) (date : ℕ) (d : is_date date ≡ true) where
   pub outline_accepted : (lent : List ℕ) → length (outline (parents (content s))) * outline_width ≤ length lent → IsAccepted (outline_reply s date lent)
   outline_accepted lent room =
       accepted_call (at_date date) (outline_rows date) s (length lent) v (met d none_asked) (omega (arith, (outline_sized date (content s) (length (outline (parents (content s)))) refl).long, room))

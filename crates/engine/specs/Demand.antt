@@ -1,15 +1,14 @@
 -- The client's third demand over lent memory: what is read there after calls of `earned_value`, `project_earned` and `planned_curve`.
-use Rattle.std.specs.Prelude.{ℕ, ◌+◌, ◌*◌, ◌≤◌, ◌≡◌, List, [], ◌∷◌, map, ℤ, length, get_or}
+use Rattle.std.specs.Prelude.{ℕ, ◌+◌, ◌*◌, ◌≤◌, ◌≡◌, List, [], ◌∷◌, map, ℤ, length, get_or, Ok}
 use Rattle.money.specs.Words.{of_bits}
 use Rattle.format.specs.Verdict.{content}
 use Rattle.lists.specs.Lists.{span}
 use Rattle.model.specs.Amounts.{Dated, on}
 use Rattle.model.specs.Planned.{planned_curve_between}
 use Rattle.model.specs.Demand.{Reading}
-use Rattle.answers.specs.declared.Reply.{Reply}
-use Rattle.answers.specs.declared.Reply.TheVariants.{Accepted}
 use Rattle.answers.specs.Rows.{earned_width, earned_value_rows, project_earned_rows, planned_curve_rows}
 use Rattle.answers.specs.Calls.{Condition, date_asked, reply, left, reply_place}
+use Rattle.answers.specs.Reply.{Reply}
 
 -- ---- the numbers of a row
 
@@ -37,7 +36,7 @@ pub record LentAt : Type 0 where
   pub project : List ℕ
 
 abbrev pub IsAccepted : Reply → Type 0
-IsAccepted r = (n : ℕ) × (r ≡ Accepted n)
+IsAccepted r = (n : ℕ) × (r ≡ Ok n)
 
 -- what the calls ask: a date, or two of them
 abbrev pub at_date : ℕ → List Condition

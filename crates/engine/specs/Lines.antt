@@ -4,10 +4,10 @@ use Rattle.lists.specs.Lists.{span}
 use Rattle.format.specs.Verdict.{content}
 use Rattle.model.specs.Tree.{parents}
 use Rattle.model.specs.Outline.{Line, line, line_at, ParentsInside, IsOutlineOf}
-use Rattle.answers.specs.declared.Reply.{Reply}
 use Rattle.answers.specs.Rows.{earned_width, earned_value_rows, outline_width, outline_rows}
 use Rattle.answers.specs.Calls.{reply, left, reply_place}
 use Rattle.engine.specs.Demand.{number_at, at_date}
+use Rattle.answers.specs.Reply.{Reply}
 
 -- on a book of these bytes, at a date
 module _ (s : List ℕ) (date : ℕ) where

@@ -1,4 +1,5 @@
 -- The state of reading a number's groups, and how each step keeps it.
+use Rattle.std.specs.Prelude.{Err, Ok}
 use Prim.Native.Nat.{ℕ, zero, suc, ◌+◌, ◌-◌, ◌*◌, ◌^◌, ◌≤◌, ◌<◌}
 use native.Mathlib.Nat.{add_assoc, mul-add, mul_assoc, pow-suc, pow-le-pow_right, mul-le-mul_left}
 use native.Mathlib.Omega.{arith}
@@ -10,30 +11,30 @@ use mathlib.Core.Logic.{◌⊎◌, inl, inr, ⊎_elim}
 use lib.ListN.{length, get_or}
 use lib.Dec.{ltb, leb}
 use borrow.Author.Tests.{le-leb, lt-leb, lt-ltb, le-ltb, eq-eqb, ne_eqb, ltb-false}
-use Rattle.format.specs.declared.Num.{Num}
-use Rattle.format.specs.declared.Num.TheVariants.{Value, Refused}
+use Rattle.format.specs.declared.Reason.TheVariants.{EndsEarly, NotShortest}
 use Rattle.format.specs.Number.{wrong_group, onto, groups, number_at}
+use Rattle.format.specs.Position.{Num, refused}
 
 onto_none : (r : Num) → onto 0 1 r ≡ r
 unfolding onto
-onto_none (Value v n) = ap (λ (x : ℕ). Value x n) (omega arith)
-onto_none (Refused e p) = refl
+onto_none (Ok (v, n)) = ap (λ (x : ℕ). Ok (x, n)) (omega arith)
+onto_none (Err e) = refl
 
 onto_onto : (a k d : ℕ) (r : Num) → onto a k (onto d 128 r) ≡ onto (a + k * d) (k * 128) r
 unfolding onto
-onto_onto a k d (Value v n) = ap (λ (x : ℕ). Value x n) (simp (mul-add, mul_assoc, add_assoc))
-onto_onto a k d (Refused e p) = refl
+onto_onto a k d (Ok (v, n)) = ap (λ (x : ℕ). Ok (x, n)) (simp (mul-add, mul_assoc, add_assoc))
+onto_onto a k d (Err e) = refl
 
 -- the groups, where one is due
 groups_step :
     (s : List ℕ) (place at left : ℕ) → 0 < left →
     groups left s place at
     ≡ cond (leb (length s) at)
-    (Refused 2 (length s))
+    (refused EndsEarly (length s))
     (cond (wrong_group left (get_or s at 0))
-    (Refused 3 place)
+    (refused NotShortest place)
     (cond (ltb (get_or s at 0) 128)
-    (Value (get_or s at 0) (at + 1))
+    (Ok (get_or s at 0, at + 1))
     (onto (get_or s at 0 - 128) 128 (groups (left - 1) s place (at + 1)))))
 unfolding groups
 groups_step s place at zero h = absurd (omega arith)
@@ -97,12 +98,12 @@ wrong_tenth left (suc (suc b)) h e = rw (h, ne_eqb (suc (suc b)) 0 (λ z. omega 
 
 module _ {s : List ℕ} {place at left scale sum : ℕ} (r : Reading s place at left scale sum) (h : 0 < left) where
   -- the book ends where a byte is due
-  pub ends : length s ≤ at → Refused 2 (length s) ≡ number_at s place
+  pub ends : length s ≤ at → refused EndsEarly (length s) ≡ number_at s place
   unfolding onto
   ends m = rw (groups_step s place at left h, le-leb _ _ m) at r.same
 
   -- the byte that is due is refused
-  pub wrong : (b : ℕ) → at < length s → b ≡ get_or s at 0 → wrong_group left b ≡ true → Refused 3 place ≡ number_at s place
+  pub wrong : (b : ℕ) → at < length s → b ≡ get_or s at 0 → wrong_group left b ≡ true → refused NotShortest place ≡ number_at s place
   unfolding onto
   wrong b i e w = rw (groups_step s place at left h, lt-leb _ _ i, ← e, w) at r.same
 
@@ -116,7 +117,7 @@ pub record Due (s : List ℕ) (place at left scale sum b : ℕ) : Type 0 where
 
 module _ {s : List ℕ} {place at left scale sum b : ℕ} (d : Due s place at left scale sum b) where
   -- it is the last of the number
-  pub last : b < 128 → Value (sum + scale * b) (at + 1) ≡ number_at s place
+  pub last : b < 128 → Ok (sum + scale * b, at + 1) ≡ number_at s place
   unfolding onto
   last m = rw (groups_step s place at left d.more, lt-leb _ _ d.inside, ← d.byte, d.right, lt-ltb _ _ m) at d.reading.same
 
@@ -156,7 +157,7 @@ module _ (s : List ℕ) (place b : ℕ) (i : place < length s) (e : b ≡ get_or
   first : Due s place place 10 1 0 b
   first = record { reading = begin s place; more = omega arith; inside = i; byte = e; right = first_right b }
 
-  pub one_byte : b < 128 → Value b (place + 1) ≡ number_at s place
+  pub one_byte : b < 128 → Ok (b, place + 1) ≡ number_at s place
   one_byte m = let z : 0 + 1 * b ≡ b = omega arith in rw z at (last first m)
 
   pub more_bytes : 128 ≤ b → b < 256 → Reading s place (place + 1) 9 128 (b - 128)
@@ -177,7 +178,7 @@ module _
           right = right_more 9 b (omega arith) z;
         }
 
-    pub two_bytes : (b ≡ 0 → ⊥) → b < 128 → Value (a - 128 + 128 * b) (place + 2) ≡ number_at s place
+    pub two_bytes : (b ≡ 0 → ⊥) → b < 128 → Ok (a - 128 + 128 * b, place + 2) ≡ number_at s place
     two_bytes z l = let n : place + 1 + 1 ≡ place + 2 = omega arith in rw n at (last (second z) l)
 
     -- three
@@ -193,7 +194,7 @@ module _
             right = right_more 8 c (omega arith) z;
           }
 
-      pub three_bytes : (c ≡ 0 → ⊥) → c < 128 → Value (a - 128 + 128 * b - 16384 + 16384 * c) (place + 3) ≡ number_at s place
+      pub three_bytes : (c ≡ 0 → ⊥) → c < 128 → Ok (a - 128 + 128 * b - 16384 + 16384 * c, place + 3) ≡ number_at s place
       three_bytes z l =
           let n : place + 2 + 1 ≡ place + 3 = omega arith in
           let v : a - 128 + 128 * (b - 128) + 16384 * c ≡ a - 128 + 128 * b - 16384 + 16384 * c = omega arith in
@@ -202,7 +203,7 @@ module _
       -- four
       pub four_bytes :
           (d : ℕ) → place + 3 < length s → d ≡ get_or s (place + 3) 0 → 128 ≤ c → c < 256 → (d ≡ 0 → ⊥) → d < 128 →
-          Value (a - 128 + 128 * b - 16384 + 16384 * c - 2097152 + 2097152 * d) (place + 4) ≡ number_at s place
+          Ok (a - 128 + 128 * b - 16384 + 16384 * c - 2097152 + 2097152 * d, place + 4) ≡ number_at s place
       four_bytes d h p w x z l =
           let n : place + 2 + 1 ≡ place + 3 = omega arith in
           let n' : place + 3 + 1 ≡ place + 4 = omega arith in

@@ -1,14 +1,13 @@
 -- The common way: numbers of few bytes.
-use Rattle.std.specs.Prelude.{ℕ, Option, ◌+◌, ◌≤◌, ◌<◌, ◌≡◌, List, length, get_or}
+use Rattle.std.specs.Prelude.{ℕ, Option, ◌+◌, ◌≤◌, ◌<◌, ◌≡◌, List, length, get_or, Ok}
 use Rattle.std.specs.Option.{IfSome}
-use Rattle.format.specs.declared.Num.TheVariants.{Value}
 use Rattle.format.specs.Number.{number_at}
 use Rattle.fields.specs.declared.numbers.Few.{Few}
 use Rattle.fields.specs.declared.numbers.Ending.{Ending}
 
 -- what was read, if anything, is the number that begins at `place`
 abbrev pub IsFew : List ℕ → ℕ → Option Few → Type 0
-IsFew s place r = IfSome r (λ n. Value n.value n.next ≡ number_at s place)
+IsFew s place r = IfSome r (λ n. Ok (n.value, n.next) ≡ number_at s place)
 
 -- the number is from `low` to below `bound`
 pub record Fits (n : Few) (low bound : ℕ) : Type 0 where
@@ -28,4 +27,4 @@ pub record Begun (s : List ℕ) (place first : ℕ) : Type 0 where
 
 -- what was read is the number that begins at `place`, if its last byte may end it
 abbrev pub IsEnding : List ℕ → ℕ → Ending → Type 0
-IsEnding s place r = (r.last ≡ 0 → ⊥) → r.last < 128 → Value r.value r.next ≡ number_at s place
+IsEnding s place r = (r.last ≡ 0 → ⊥) → r.last < 128 → Ok (r.value, r.next) ≡ number_at s place

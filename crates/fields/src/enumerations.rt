@@ -1,5 +1,4 @@
 // The enums of the book, from their numbers.
-ghost use Rattle.std.proofs.Math.Option.{none};
 ghost use Rattle.std.specs.Prelude.{◌≡◌};
 ghost use Rattle.format.specs.Enumeration.{status_of, technique_of, forecast_of, resource_kind_of};
 ghost use Rattle.format.specs.Enumeration.{accrual_of, change_status_of, region_of, working_of};
@@ -82,7 +81,7 @@ pub fn working_of(v: u64) -> bool
 // A technique without a share.
 #[tactic(auto, unfolding(format::specs::Enumeration::technique_of))]
 pub fn technique_of(v: u64) -> EvTechnique
-    ensures { result ≡ technique_of v none }
+    ensures { result ≡ technique_of v None }
 {
     match v {
         0 => EvTechnique::Physical,

@@ -9,21 +9,19 @@ ghost use Rattle.format.specs.Field.{S, D};
 ghost use Rattle.format.specs.Codec as codec;
 ghost use Rattle.format.specs.Codec.{O};
 ghost use Rattle.format.specs.Format as layout;
-ghost use Rattle.format.specs.declared.Pos.TheVariants.{At};
 ghost use Rattle.fields.specs.Common.{Fits};
-ghost use Rattle.fields.specs.Optional.{number_option, amount_option};
 
+use crate::Read;
 use crate::numbers::{Few, brief, mark_at, number, short};
-use crate::{OptionalAmount, OptionalNumber, Read};
-use format::{Num, OUT_OF_ORDER, OUT_OF_RANGE, Pos};
+use format::{Num, Pos, Reason, Refusal};
 
 // The place of a position: of what is read next, or of the refusal.
 pub fn place(at: Pos) -> usize
     ensures { result ≡ place_of at }
 {
     match at {
-        Pos::At(i) => i,
-        Pos::Refused(_, p) => p,
+        Ok(i) => i,
+        Err(e) => e.place,
     }
 }
 
@@ -32,32 +30,32 @@ fn found(n: Num) -> Read<u64>
     ensures { (result.value, result.next) ≡ reader.found n }
 {
     match n {
-        Num::Value(v, next) => Read {
+        Ok((v, next)) => Read {
             value: v,
-            next: Pos::At(next),
+            next: Ok(next),
         },
-        Num::Refused(e, p) => Read {
+        Err(e) => Read {
             value: 0,
-            next: Pos::Refused(e, p),
+            next: Err(e),
         },
     }
 }
 
-// The number, where it is from `low` to below `bound`; outside, the refusal `code` at `place`.
-fn within(n: Num, low: u64, bound: u64, code: u64, place: usize) -> Num
-    ensures { result ≡ in_range low bound code place n }
+// The number, where it is from `low` to below `bound`; outside, the refusal `reason` at `place`.
+fn within(n: Num, low: u64, bound: u64, reason: Reason, place: usize) -> Num
+    ensures { result ≡ in_range low bound reason place n }
 {
     match n {
-        Num::Value(v, next) => {
+        Ok((v, next)) => {
             if v < low {
-                return Num::Refused(code, place);
+                return Err(Refusal { reason, place });
             }
             if v < bound {
-                return Num::Value(v, next);
+                return Ok((v, next));
             }
-            Num::Refused(code, place)
+            Err(Refusal { reason, place })
         }
-        Num::Refused(e, p) => Num::Refused(e, p),
+        Err(e) => Err(e),
     }
 }
 
@@ -73,67 +71,67 @@ pub fn any_number(book: &[u8], at: Pos) -> Read<u64>
     ensures { (result.value, result.next) ≡ reader.number book.now at }
 {
     match at {
-        Pos::At(i) => {
+        Ok(i) => {
             if let Some(n) = short(book, i) {
                 return Read {
                     value: n.value,
-                    next: Pos::At(n.next),
+                    next: Ok(n.next),
                 };
             }
             found(number(book, i))
         }
-        Pos::Refused(e, p) => Read {
+        Err(e) => Read {
             value: 0,
-            next: Pos::Refused(e, p),
+            next: Err(e),
         },
     }
 }
 
-// A number from `low` to below `bound`; outside, the refusal `code` at `place`.
-pub fn ranged(book: &[u8], at: Pos, place: usize, low: u64, bound: u64, code: u64) -> Read<u64>
-    ensures { (result.value, result.next) ≡ reader.ranged low bound code place book.now at }
+// A number from `low` to below `bound`; outside, the refusal `reason` at `place`.
+pub fn ranged(book: &[u8], at: Pos, place: usize, low: u64, bound: u64, reason: Reason) -> Read<u64>
+    ensures { (result.value, result.next) ≡ reader.ranged low bound reason place book.now at }
 {
     match at {
-        Pos::At(i) => {
+        Ok(i) => {
             if let Some(n) = short(book, i) {
                 if fits(n, low, bound) {
                     return Read {
                         value: n.value,
-                        next: Pos::At(n.next),
+                        next: Ok(n.next),
                     };
                 }
             }
             let n = number(book, i);
-            found(within(n, low, bound, code, place))
+            found(within(n, low, bound, reason, place))
         }
-        Pos::Refused(e, p) => Read {
+        Err(e) => Read {
             value: 0,
-            next: Pos::Refused(e, p),
+            next: Err(e),
         },
     }
 }
 
-// The same, refused at its own place: a U, or with COUNT_OUT_OF_RANGE the count of a list.
-pub fn field(book: &[u8], at: Pos, low: u64, bound: u64, code: u64) -> Read<u64>
-    ensures { (result.value, result.next) ≡ (codec.field (kind.range low bound code)).read book.now at }
+// The same, refused at its own place: a U, or with Reason::CountOutOfRange the count of a list.
+pub fn field(book: &[u8], at: Pos, low: u64, bound: u64, reason: Reason) -> Read<u64>
+    ensures { (result.value, result.next) ≡ (codec.field (kind.range low bound reason)).read book.now at }
 {
-    ranged(book, at, place(at), low, bound, code)
+    ranged(book, at, place(at), low, bound, reason)
 }
 
 // O of a number from `low` to below `bound`, which is refused at its mark's place.
-fn optional(book: &[u8], at: usize, low: u64, bound: u64) -> Read<OptionalNumber>
-    ensures { (number_option result.value, result.next) ≡ (O (kind.range low bound 4)).read book.now (At at) }
+fn optional(book: &[u8], at: usize, low: u64, bound: u64) -> Read<Option<u64>>
+    ensures { (result.value, result.next) ≡ (O (kind.range low bound Reason.OutOfRange)).read book.now (Ok at) }
 {
-    let mark = field(book, Pos::At(at), 0, 2, OUT_OF_RANGE);
+    let mark = field(book, Ok(at), 0, 2, Reason::OutOfRange);
     if mark.value == 0 {
         return Read {
-            value: OptionalNumber::Absent,
+            value: None,
             next: mark.next,
         };
     }
-    let value = ranged(book, mark.next, at, low, bound, OUT_OF_RANGE);
+    let value = ranged(book, mark.next, at, low, bound, Reason::OutOfRange);
     Read {
-        value: OptionalNumber::Present(value.value),
+        value: Some(value.value),
         next: value.next,
     }
 }
@@ -158,19 +156,19 @@ pub fn amount(book: &[u8], at: Pos) -> Read<i64>
 }
 
 // O S: a signed number that may be absent.
-pub fn optional_amount(book: &[u8], at: Pos) -> Read<OptionalAmount>
-    ensures { (amount_option result.value, result.next) ≡ (O S).read book.now at }
+pub fn optional_amount(book: &[u8], at: Pos) -> Read<Option<i64>>
+    ensures { (result.value, result.next) ≡ (O S).read book.now at }
 {
-    let mark = field(book, at, 0, 2, OUT_OF_RANGE);
+    let mark = field(book, at, 0, 2, Reason::OutOfRange);
     if mark.value == 0 {
         return Read {
-            value: OptionalAmount::Absent,
+            value: None,
             next: mark.next,
         };
     }
     let value = amount(book, mark.next);
     Read {
-        value: OptionalAmount::Present(value.value),
+        value: Some(value.value),
         next: value.next,
     }
 }
@@ -179,37 +177,37 @@ pub fn optional_amount(book: &[u8], at: Pos) -> Read<OptionalAmount>
 pub fn date(book: &[u8], at: Pos) -> Read<u64>
     ensures { (result.value, result.next) ≡ (codec.field D).read book.now at }
 {
-    field(book, at, 10957, 47482, OUT_OF_RANGE)
+    field(book, at, 10957, 47482, Reason::OutOfRange)
 }
 
 // O D: a date that may be absent.
-pub fn optional_date(book: &[u8], at: Pos) -> Read<OptionalNumber>
-    ensures { (number_option result.value, result.next) ≡ (O D).read book.now at }
+pub fn optional_date(book: &[u8], at: Pos) -> Read<Option<u64>>
+    ensures { (result.value, result.next) ≡ (O D).read book.now at }
 {
     match at {
-        Pos::At(i) => {
+        Ok(i) => {
             let mark = mark_at(book, i);
             if mark == 0 {
                 return Read {
-                    value: OptionalNumber::Absent,
-                    next: Pos::At(i + 1),
+                    value: None,
+                    next: Ok(i + 1),
                 };
             }
             if mark == 1 {
                 if let Some(n) = short(book, i + 1) {
                     if fits(n, 10957, 47482) {
                         return Read {
-                            value: OptionalNumber::Present(n.value),
-                            next: Pos::At(n.next),
+                            value: Some(n.value),
+                            next: Ok(n.next),
                         };
                     }
                 }
             }
             optional(book, i, 10957, 47482)
         }
-        Pos::Refused(e, p) => Read {
-            value: OptionalNumber::Absent,
-            next: Pos::Refused(e, p),
+        Err(e) => Read {
+            value: None,
+            next: Err(e),
         },
     }
 }
@@ -218,37 +216,37 @@ pub fn optional_date(book: &[u8], at: Pos) -> Read<OptionalNumber>
 pub fn index(book: &[u8], at: Pos, named: u64) -> Read<u64>
     ensures { (result.value, result.next) ≡ (codec.field (kind.index named)).read book.now at }
 {
-    field(book, at, 0, named, OUT_OF_RANGE)
+    field(book, at, 0, named, Reason::OutOfRange)
 }
 
 // O index: an index that may be absent.
-pub fn optional_index(book: &[u8], at: Pos, named: u64) -> Read<OptionalNumber>
-    ensures { (number_option result.value, result.next) ≡ (O (kind.index named)).read book.now at }
+pub fn optional_index(book: &[u8], at: Pos, named: u64) -> Read<Option<u64>>
+    ensures { (result.value, result.next) ≡ (O (kind.index named)).read book.now at }
 {
     match at {
-        Pos::At(i) => {
+        Ok(i) => {
             let mark = mark_at(book, i);
             if mark == 0 {
                 return Read {
-                    value: OptionalNumber::Absent,
-                    next: Pos::At(i + 1),
+                    value: None,
+                    next: Ok(i + 1),
                 };
             }
             if mark == 1 {
                 if let Some(n) = brief(book, i + 1) {
                     if fits(n, 0, named) {
                         return Read {
-                            value: OptionalNumber::Present(n.value),
-                            next: Pos::At(n.next),
+                            value: Some(n.value),
+                            next: Ok(n.next),
                         };
                     }
                 }
             }
             optional(book, i, 0, named)
         }
-        Pos::Refused(e, p) => Read {
-            value: OptionalNumber::Absent,
-            next: Pos::Refused(e, p),
+        Err(e) => Read {
+            value: None,
+            next: Err(e),
         },
     }
 }
@@ -257,24 +255,27 @@ pub fn optional_index(book: &[u8], at: Pos, named: u64) -> Read<OptionalNumber>
 pub fn minutes(book: &[u8], at: Pos) -> Read<u64>
     ensures { (result.value, result.next) ≡ (codec.field kind.minutes).read book.now at }
 {
-    field(book, at, 0, 1000000001, OUT_OF_RANGE)
+    field(book, at, 0, 1000000001, Reason::OutOfRange)
 }
 
 // The date d, read at `place`, where it is above the one before it; else refusal 6.
 fn above(d: Read<u64>, before: u64, place: usize) -> Read<u64>
-    ensures { (result.value, result.next) ≡ reader.tested 0 6 place (ltb before d.value) (d.value, d.next) }
+    ensures { (result.value, result.next) ≡ reader.tested 0 Reason.OutOfOrder place (ltb before d.value) (d.value, d.next) }
 {
     match d.next {
-        Pos::At(_) => {
+        Ok(_) => {
             if before < d.value {
                 return d;
             }
             Read {
                 value: 0,
-                next: Pos::Refused(OUT_OF_ORDER, place),
+                next: Err(Refusal {
+                    reason: Reason::OutOfOrder,
+                    place,
+                }),
             }
         }
-        Pos::Refused(_, _) => d,
+        Err(_) => d,
     }
 }
 

@@ -13,15 +13,3 @@ pub struct Read<T> {
     pub value: T,
     pub next: Pos,
 }
-
-#[derive(Clone, Copy)]
-pub enum OptionalNumber {
-    Absent,
-    Present(u64),
-}
-
-#[derive(Clone, Copy)]
-pub enum OptionalAmount {
-    Absent,
-    Present(i64),
-}

@@ -3,7 +3,7 @@ ghost use Rattle.std.specs.Prelude.{◌≡◌, ◌+◌, ◌-◌, ◌<◌, length
 ghost use Rattle.format.specs.Number.{number_at};
 ghost use Rattle.fields.specs.Common.{IsFew, IsMark, Begun, IsEnding};
 
-use format::{ENDS_EARLY, NOT_SHORTEST, Num};
+use format::{Num, Reason, Refusal};
 
 // A number of few bytes, and the place after it.
 #[derive(Clone, Copy)]
@@ -27,36 +27,51 @@ pub fn number(book: &[u8], place: usize) -> Num
     ensures { result ≡ number_at book.now place }
 {
     if book.len() <= place {
-        return Num::Refused(ENDS_EARLY, book.len());
+        return Err(Refusal {
+            reason: Reason::EndsEarly,
+            place: book.len(),
+        });
     }
     let first = u64::from(book[place]);
     if first < 128 {
-        return Num::Value(first, place + 1);
+        return Ok((first, place + 1));
     }
     let mut scale: u64 = 128;
     let mut sum = first - 128;
     for at in place + 1..place + 9 {
         if book.len() <= at {
-            return Num::Refused(ENDS_EARLY, book.len());
+            return Err(Refusal {
+                reason: Reason::EndsEarly,
+                place: book.len(),
+            });
         }
         let b = u64::from(book[at]);
         if b < 128 {
             if b == 0 {
-                return Num::Refused(NOT_SHORTEST, place);
+                return Err(Refusal {
+                    reason: Reason::NotShortest,
+                    place,
+                });
             }
-            return Num::Value(sum + scale * b, at + 1);
+            return Ok((sum + scale * b, at + 1));
         }
         sum += scale * (b - 128);
         scale *= 128;
     }
     if book.len() <= place + 9 {
-        return Num::Refused(ENDS_EARLY, book.len());
+        return Err(Refusal {
+            reason: Reason::EndsEarly,
+            place: book.len(),
+        });
     }
     let tenth = u64::from(book[place + 9]);
     if tenth == 1 {
-        return Num::Value(sum + scale, place + 10);
+        return Ok((sum + scale, place + 10));
     }
-    Num::Refused(NOT_SHORTEST, place)
+    Err(Refusal {
+        reason: Reason::NotShortest,
+        place,
+    })
 }
 
 // Below it, at least four bytes begin at every place.

@@ -6,11 +6,11 @@ use lib.ListN.{length}
 use lib.Seq.{length-sets}
 use Rattle.format.specs.declared.EtcTechnique.{EtcTechnique}
 use Rattle.model.specs.declared.Earned.{Earned}
-use Rattle.answers.specs.declared.Reply.{Reply}
 use Rattle.answers.specs.Rows.{forecast_row}
 use Rattle.answers.specs.Calls.{Puts}
 use Rattle.forecast.proofs.Put.{row_put}
 use Rattle.answers.proofs.Sized.{Sized, one_sized}
+use Rattle.answers.specs.Reply.{Reply}
 
 forecast_long : (technique : EtcTechnique) (e : Earned) → length (forecast_row technique e) ≡ 9
 forecast_long technique e = ap length (sym (row_put technique e (0 ∷ 0 ∷ 0 ∷ 0 ∷ 0 ∷ 0 ∷ 0 ∷ 0 ∷ 0 ∷ []) refl)) ∙ simp length-sets

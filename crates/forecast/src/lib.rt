@@ -4,12 +4,10 @@
 ghost use Rattle.std.specs.Prelude.{◌≡◌, [], ◌∷◌, length};
 ghost use Rattle.std.proofs.lemmas.List.Edits.{sets};
 ghost use Rattle.model.specs.Forecast as definition;
-ghost use Rattle.fields.specs.Optional.{number_option};
 ghost use Rattle.answers.specs.Calls.{Puts};
 ghost use Rattle.answers.specs.Rows.{estimates_row, index_bits, indices_row, forecast_row};
 
 use answers::{Reply, TOO_SHORT};
-use fields::OptionalNumber;
 use floats::{at_rate, bits, both, ratio};
 use format::EtcTechnique;
 use model::{Earned, Indices};
@@ -90,13 +88,13 @@ fn put_estimates(technique: EtcTechnique, e: Earned, out: &mut [u64])
 }
 
 // The bits of an index, if there is one.
-fn index_bits(present: bool, value: f64) -> OptionalNumber
-    ensures { number_option result ≡ index_bits present value }
+fn index_bits(present: bool, value: f64) -> Option<u64>
+    ensures { result ≡ index_bits present value }
 {
     if present {
-        return OptionalNumber::Present(bits(value));
+        return Some(bits(value));
     }
-    OptionalNumber::Absent
+    None
 }
 
 // The indices, behind the estimates.
@@ -123,8 +121,8 @@ pub fn give_forecast(technique: EtcTechnique, e: Earned, out: &mut [u64]) -> Rep
     ensures { Puts (forecast_row technique e ∷ []) out.old result out.new }
 {
     if out.len() < 9 {
-        return Reply::Refused(TOO_SHORT, 0);
+        return Err(TOO_SHORT);
     }
     put_forecast(technique, e, &mut out[..9]);
-    Reply::Accepted(1)
+    Ok(1)
 }

@@ -1,17 +1,15 @@
 -- Document 01's book for the status program, its bytes and its content, and the smallest refusals, by computation.
+use Rattle.std.specs.Prelude.{None, Some, Ok}
 use Prim.Native.Nat.{ℕ}
 use mathlib.Core.Path.{◌≡◌, refl}
 use mathlib.Core.List.{List, [], ◌∷◌, ◌++◌, map}
-use mathlib.Core.Option.{none, some}
 use lib.ListN.{replicate}
 use lib.IntN.{pos}
-use Rattle.format.specs.declared.Pos.{Pos}
-use Rattle.format.specs.declared.Pos.TheVariants.{At, Refused}
 use Rattle.format.specs.declared.Status.TheVariants.{InProgress}
 use Rattle.format.specs.declared.EvTechnique.TheVariants.{Physical}
 use Rattle.format.specs.declared.EtcTechnique.TheVariants.{Remaining}
 use Rattle.format.specs.declared.Accrual.TheVariants.{Uniform}
-use Rattle.format.specs.declared.Region.TheVariants.{None}
+use Rattle.format.specs.declared.Region.TheVariants as regions
 use Rattle.format.specs.Number as n
 use Rattle.format.specs.Reader as r
 use Rattle.format.specs.Signed as z
@@ -22,44 +20,46 @@ use Rattle.format.specs.Book.{Book}
 use Rattle.format.specs.Format as f
 use Rattle.format.specs.Format.{book}
 use Rattle.format.specs.Verdict.{begin, end, verdict, content}
+use Rattle.format.specs.declared.Reason.TheVariants.{BytesLeft, CountOutOfRange, EndsEarly, NotShortest, OutOfOrder, OutOfRange}
+use Rattle.format.specs.Position.{Pos, refused}
 
 abbrev pub example : Book
 example =
     record {
-      data_date = some 19724;
+      data_date = Some 19724;
       technique = Physical;
       forecast = Remaining;
-      calendars = record { week = 31; region = None; holidays = []; extra_days = []; exceptions = [] } ∷ [];
+      calendars = record { week = 31; region = regions.None; holidays = []; extra_days = []; exceptions = [] } ∷ [];
       activities =
           record {
-            parent = none;
-            calendar = none;
+            parent = None;
+            calendar = None;
             status = InProgress;
             early_start = 19723;
             early_finish = 19725;
-            actual_start = none;
-            actual_finish = none;
+            actual_start = None;
+            actual_finish = None;
             working_minutes = 0;
             remaining_minutes = 0;
-            percent = none;
+            percent = None;
           }
           ∷ record {
-            parent = some 0;
-            calendar = none;
+            parent = Some 0;
+            calendar = None;
             status = InProgress;
             early_start = 19723;
             early_finish = 19725;
-            actual_start = some 19723;
-            actual_finish = none;
+            actual_start = Some 19723;
+            actual_finish = None;
             working_minutes = 1440;
             remaining_minutes = 960;
-            percent = some (pos 5000);
+            percent = Some (pos 5000);
           }
           ∷ [];
       resources = [];
       assignments = [];
       expenses = record { activity = 1; accrual = Uniform; planned = pos 1000; actual = pos 400; remaining = pos 600 } ∷ [];
-      baseline = none;
+      baseline = None;
       budgets = [];
       log = [];
       funds = [];
@@ -96,32 +96,32 @@ head = 1 ∷ 0 ∷ 0 ∷ 0 ∷ 1 ∷ 127 ∷ 0 ∷ []
 -- byte strings, each with its verdict
 abbrev pub cases : List (List ℕ × Pos)
 cases =
-    (bytes, At 67)
+    (bytes, Ok 67)
     -- it ends where a byte is still due: at once, and behind nine bytes that all go on
-    ∷ ([], Refused 2 0)
-    ∷ (replicate 9 128, Refused 2 9)
+    ∷ ([], refused EndsEarly 0)
+    ∷ (replicate 9 128, refused EndsEarly 9)
     -- a tenth byte above 1, with the top bit too, and a last byte 0; with 1 it is a number, and no edition
-    ∷ (129 ∷ replicate 8 128 ++ (2 ∷ []), Refused 3 0)
-    ∷ (129 ∷ replicate 8 128 ++ (129 ∷ []), Refused 3 0)
-    ∷ (129 ∷ replicate 8 128 ++ (0 ∷ []), Refused 3 0)
-    ∷ (129 ∷ replicate 8 128 ++ (1 ∷ []), Refused 4 0)
+    ∷ (129 ∷ replicate 8 128 ++ (2 ∷ []), refused NotShortest 0)
+    ∷ (129 ∷ replicate 8 128 ++ (129 ∷ []), refused NotShortest 0)
+    ∷ (129 ∷ replicate 8 128 ++ (0 ∷ []), refused NotShortest 0)
+    ∷ (129 ∷ replicate 8 128 ++ (1 ∷ []), refused OutOfRange 0)
     -- the data date, behind its mark: 3 at the number's own place, 4 at the mark's
-    ∷ (1 ∷ 1 ∷ 128 ∷ 0 ∷ [], Refused 3 2)
-    ∷ (1 ∷ 1 ∷ 0 ∷ [], Refused 4 1)
+    ∷ (1 ∷ 1 ∷ 128 ∷ 0 ∷ [], refused NotShortest 2)
+    ∷ (1 ∷ 1 ∷ 0 ∷ [], refused OutOfRange 1)
     -- the last date, and one more
-    ∷ (1 ∷ 1 ∷ 249 ∷ 242 ∷ 2 ∷ [], Refused 2 5)
-    ∷ (1 ∷ 1 ∷ 250 ∷ 242 ∷ 2 ∷ [], Refused 4 1)
+    ∷ (1 ∷ 1 ∷ 249 ∷ 242 ∷ 2 ∷ [], refused EndsEarly 5)
+    ∷ (1 ∷ 1 ∷ 250 ∷ 242 ∷ 2 ∷ [], refused OutOfRange 1)
     -- no calendar
-    ∷ (1 ∷ 0 ∷ 0 ∷ 0 ∷ 0 ∷ [], Refused 5 4)
+    ∷ (1 ∷ 0 ∷ 0 ∷ 0 ∷ 0 ∷ [], refused CountOutOfRange 4)
     -- a holiday twice; the second day of two exceptions, before its idle or working number
-    ∷ (head ++ (2 ∷ 160 ∷ 156 ∷ 1 ∷ 160 ∷ 156 ∷ 1 ∷ []), Refused 6 11)
-    ∷ (head ++ (0 ∷ 0 ∷ 2 ∷ 160 ∷ 156 ∷ 1 ∷ 0 ∷ 160 ∷ 156 ∷ 1 ∷ []), Refused 6 14)
+    ∷ (head ++ (2 ∷ 160 ∷ 156 ∷ 1 ∷ 160 ∷ 156 ∷ 1 ∷ []), refused OutOfOrder 11)
+    ∷ (head ++ (0 ∷ 0 ∷ 2 ∷ 160 ∷ 156 ∷ 1 ∷ 0 ∷ 160 ∷ 156 ∷ 1 ∷ []), refused OutOfOrder 14)
     -- the range before the order: a second holiday outside D
-    ∷ (head ++ (2 ∷ 160 ∷ 156 ∷ 1 ∷ 0 ∷ []), Refused 4 11)
+    ∷ (head ++ (2 ∷ 160 ∷ 156 ∷ 1 ∷ 0 ∷ []), refused OutOfRange 11)
     -- the project's budget twice, where its amounts are cut off
-    ∷ (head ++ (0 ∷ 0 ∷ 0 ∷ 0 ∷ 0 ∷ 0 ∷ 0 ∷ 0 ∷ 2 ∷ 0 ∷ 0 ∷ 0 ∷ 0 ∷ []), Refused 6 19)
+    ∷ (head ++ (0 ∷ 0 ∷ 0 ∷ 0 ∷ 0 ∷ 0 ∷ 0 ∷ 0 ∷ 2 ∷ 0 ∷ 0 ∷ 0 ∷ 0 ∷ []), refused OutOfOrder 19)
     -- bytes behind the book are not read
-    ∷ (bytes ++ (128 ∷ []), Refused 7 67)
+    ∷ (bytes ++ (128 ∷ []), refused BytesLeft 67)
     ∷ []
 
 pub read_back : (content bytes ≡ example) × (map (λ (c : List ℕ × Pos). verdict c.0) cases ≡ map (λ (c : List ℕ × Pos). c.1) cases)

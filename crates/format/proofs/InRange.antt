@@ -1,11 +1,11 @@
 -- A well-formed book keeps the limits and ranges.
+use Rattle.std.specs.Prelude.{None, Option, Some}
 use Prim.Native.Nat.{ℕ, zero, suc, ◌≤◌, ◌<◌}
 use native.Mathlib.Nat.{not-suc-le-zero, le_of_suc-le-suc}
 use native.Mathlib.Omega.{arith}
 use mathlib.Core.Path.{◌≡◌, refl}
 use mathlib.Core.Bool.{Bool, true, false}
 use mathlib.Core.List.{List, [], ◌∷◌, map}
-use mathlib.Core.Option.{Option, none, some}
 use lib.ListN.{length, get_or, length-map}
 use lib.IntN.{ℤ}
 use borrow.Author.Tests.{ltb-true, eq-eqb}
@@ -27,8 +27,8 @@ date : (d : ℕ) → Range 10957 47482 d → IsDate d
 date d h = record { first = h.least; last = le_of_suc-le-suc h.below }
 
 pub each_given : {A : Type 0} {P Q : A → Type 0} → ((a : A) → P a → Q a) → (o : Option A) → Given P o → Given Q o
-each_given f none h = tt
-each_given f (some a) h = f a h
+each_given f None h = tt
+each_given f (Some a) h = f a h
 
 below_given : (n : ℕ) (o : Option ℕ) → Given (Range 0 n) o → Given (λ (i : ℕ). i < n) o
 below_given n = each_given (λ i h. h.below)
@@ -109,10 +109,10 @@ NewFrom before l = Each (λ (before : List (Option ℕ)) (a : Option ℕ). is_ne
 
 names_itself : (a : Option ℕ) → names a a ≡ true
 unfolding names
-names_itself none = refl
-names_itself (some i) = eq-eqb i i refl
+names_itself None = refl
+names_itself (Some i) = eq-eqb i i refl
 
-new_apart : (before : List (Option ℕ)) (a : Option ℕ) → is_new before a ≡ true → (i : ℕ) → i < length before → get_or before i none ≡ a → ⊥
+new_apart : (before : List (Option ℕ)) (a : Option ℕ) → is_new before a ≡ true → (i : ℕ) → i < length before → get_or before i None ≡ a → ⊥
 unfolding is_new
 new_apart [] a h i l e = not-suc-le-zero l
 new_apart (b ∷ before) a h zero l e = false_true (rw (e, names_itself a) at h)
@@ -124,7 +124,7 @@ new_apart (b ∷ before) a h (suc i) l e = go (names b a) refl (λ k. new_apart 
 
 new_outside :
     (before l : List (Option ℕ)) → NewFrom before l → (i k : ℕ) → i < length before → k < length l →
-    get_or before i none ≡ get_or l k none → ⊥
+    get_or before i None ≡ get_or l k None → ⊥
 unfolding NewFrom
 new_outside before [] h i k m l e = not-suc-le-zero l
 new_outside before (a ∷ as') h i zero m l e = new_apart before a h.0 i m e
@@ -209,8 +209,8 @@ baseline_in_range :
     (activities : ℕ) (o : Option (List BaselineLine)) → (marked (up_to 1000 (baseline_line activities))).ok o →
     Given (BaselineInRange activities) o
 unfolding marked iso ◌then◌ when
-baseline_in_range activities none h = tt
-baseline_in_range activities (some l) h =
+baseline_in_range activities None h = tt
+baseline_in_range activities (Some l) h =
     let c = baseline_line activities in
     record { most = few 1000 c l h.1; lines = all 1000 c l h.1 (line_in_range activities) }
 

@@ -1,8 +1,7 @@
 -- The rules that refuse are as the laws ask, so the laws hold as they stand here: of numbers, of tests, of each kind of field and of each codec.
-use Rattle.std.proofs.Common.{ℕ, zero, suc, ◌+◌, ◌*◌, ◌^◌, ◌<◌, ◌≤◌, ◌≡◌, Bool, true, false, ltb, List, ◌++◌, length, drop, refl, arith, sym}
-use borrow.Author.Tests.{lt-ltb, le-ltb, ne_eqb, ltb-true, ltb-false}
-use Rattle.format.specs.declared.Num.TheVariants.{Value}
-use Rattle.format.specs.declared.Pos.TheVariants.{At, Refused}
+use Rattle.std.specs.Prelude.{Err, Ok}
+use Rattle.std.proofs.Common.{ℕ, zero, suc, ◌+◌, ◌*◌, ◌^◌, ◌<◌, ◌≤◌, ◌≡◌, Bool, true, false, ltb, List, ◌++◌, length, drop, refl, arith}
+use borrow.Author.Tests.{le-ltb, ne_eqb, ltb-true, ltb-false}
 use Rattle.format.specs.Number.{wrong_group, number_at, write_number}
 use Rattle.format.specs.Bytes.{Bytes}
 use Rattle.format.specs.Reader.{Reader, Writer, number, ranged, optional, write_optional, tested, passing}
@@ -17,7 +16,8 @@ use Rattle.format.specs.Signed as sign
 use Rattle.format.specs.Signed.{signed, write_signed, Sendable}
 use Rattle.format.specs.Field.{Kind}
 use Rattle.format.specs.Codec.{Codec}
-use Rattle.std.proofs.Math.Option.{Option}
+use Rattle.format.specs.declared.Refusal.{Refusal}
+use Rattle.format.specs.declared.Reason.{Reason}
 
 -- ---- the rules
 
@@ -36,9 +36,9 @@ right_last (suc k) zero u h l = go (ltb (suc (suc k)) 10) refl
     go false e = e
 right_last (suc k) (suc n) u h l = rw (ne_eqb (suc n) 0 (λ z. omega arith), ne_eqb (suc (suc k)) 1 (λ z. omega arith))
 
-tested_refused : {A : Type 0} (d : A) (code place : ℕ) (t : Bool) (a : A) (e p : ℕ) → tested d code place t (a, Refused e p) ≡ (a, Refused e p)
+tested_refused : {A : Type 0} (d : A) (code : Reason) (place : ℕ) (t : Bool) (a : A) (e : Refusal) → tested d code place t (a, Err e) ≡ (a, Err e)
 unfolding tested
-tested_refused d code place t a e p = refl
+tested_refused d code place t a e = refl
 
 pub sound : Sound
 sound = record { tenth = right_tenth; last = right_last; refused = tested_refused }
@@ -47,16 +47,16 @@ sound = record { tenth = right_tenth; last = right_last; refused = tested_refuse
 
 pub number_forth :
     (n : ℕ) → n < 2 ^ 64 → (s rest : List ℕ) (at : ℕ) → drop at s ≡ write_number n ++ rest →
-    number_at s at ≡ Value n (at + length (write_number n))
+    number_at s at ≡ Ok (n, at + length (write_number n))
 number_forth = numbers.number_forth sound
 
-pub number_back : (s : List ℕ) → Bytes s → (at v next : ℕ) → number_at s at ≡ Value v next → Found s at v next
+pub number_back : (s : List ℕ) → Bytes s → (at v next : ℕ) → number_at s at ≡ Ok (v, next) → Found s at v next
 number_back = numbers.number_back sound
 
 pub number_inverse : Inverse number write_number (λ (v : ℕ). v < 2 ^ 64)
 number_inverse = inverse.number_inverse sound
 
-pub ranged_inverse : (low bound code place : ℕ) → Inverse (ranged low bound code place) write_number (Range low bound)
+pub ranged_inverse : (low bound : ℕ) (code : Reason) (place : ℕ) → Inverse (ranged low bound code place) write_number (Range low bound)
 ranged_inverse low bound code place = inverse.ranged_inverse low bound code place sound
 
 pub optional_inverse :
@@ -65,11 +65,11 @@ pub optional_inverse :
 optional_inverse Q = inverse.optional_inverse sound Q
 
 pub passing_inverse :
-    {A : Type 0} {r : Reader A} {w : Writer A} {ok : A → Type 0} (d : A) (t : A → Bool) (code : ℕ) → Inverse r w ok →
+    {A : Type 0} {r : Reader A} {w : Writer A} {ok : A → Type 0} (d : A) (t : A → Bool) (code : Reason) → Inverse r w ok →
     Inverse (passing d t code r) w (λ (v : A). ok v × (t v ≡ true))
 passing_inverse d t code R = inverse.passing_inverse d t code R sound
 
-pub passing_within : {A : Type 0} (d : A) (t : A → Bool) (code : ℕ) {r : Reader A} → Within r → Within (passing d t code r)
+pub passing_within : {A : Type 0} (d : A) (t : A → Bool) (code : Reason) {r : Reader A} → Within r → Within (passing d t code r)
 passing_within = within.passing_within sound
 
 pub signed_inverse : Inverse signed write_signed Sendable

@@ -1,4 +1,5 @@
 -- The laws of the format, over the whole book.
+use Rattle.std.specs.Prelude.{Err, Ok}
 use Prim.Native.Nat.{ℕ, ◌≤◌, ◌<◌}
 use native.Mathlib.Omega.{arith}
 use mathlib.Core.Path.{◌≡◌, refl, ap, sym, ◌∙◌}
@@ -6,9 +7,6 @@ use mathlib.Core.List.{List, [], append-nil}
 use lib.ListN.{length, drop}
 use lib.Seq.{drop-length}
 use borrow.Author.Tests.{lt-ltb}
-use Rattle.format.specs.declared.Pos.{Pos}
-use Rattle.format.specs.declared.Pos.TheVariants.{At, Refused}
-use Rattle.format.specs.declared.Answer.TheVariants as answer
 use Rattle.format.specs.Reader.{place_of}
 use Rattle.format.specs.Bytes.{Bytes}
 use Rattle.format.specs.Inverse.{never}
@@ -19,7 +17,10 @@ use Rattle.format.specs.InRange.{Limits, InRange}
 use Rattle.format.proofs.Sound.{codec_inverse}
 use Rattle.format.proofs.Verdict.{read_written, verdict_written, begins, held, ends, verdict_place}
 use Rattle.format.proofs.InRange.{fields_limits, fields_in_range}
+use Rattle.format.specs.declared.Reason.TheVariants.{BookTooLong}
 use Rattle.format.proofs.WellFormed.{fields_well_formed}
+use Rattle.format.specs.Position.{Pos, refused}
+use Rattle.format.specs.declared.Refusal.{Refusal}
 
 -- 1. A well-formed book, written, is accepted and reads back as itself.
 module _ (b : Book) (w : WellFormed b) where
@@ -59,31 +60,31 @@ pub in_range_well_formed : (b : Book) → Limits b → InRange b → length (boo
 in_range_well_formed b n h l = record { fields = fields_well_formed b n h; short = l }
 
 -- 4. The place of a refusal is never beyond the length.
-pub refusal_place : (s : List ℕ) (e p : ℕ) → verdict s ≡ Refused e p → p ≤ length s
+pub refusal_place : (s : List ℕ) (e : Refusal) → verdict s ≡ Err e → e.place ≤ length s
 unfolding place_of
-refusal_place s e p h = rw h at (verdict_place s)
+refusal_place s e h = rw h at (verdict_place s)
 
 -- What is refused, no well-formed book writes.
-pub refused_unwritten : (s : List ℕ) (e p : ℕ) → verdict s ≡ Refused e p → (b : Book) → WellFormed b → book.write b ≡ s → ⊥
-refused_unwritten s e p h b w k = never (sym h ∙ rw k at (verdict_written b w))
+pub refused_unwritten : (s : List ℕ) (e : Refusal) → verdict s ≡ Err e → (b : Book) → WellFormed b → book.write b ≡ s → ⊥
+refused_unwritten s e h b w k = never (sym h ∙ rw k at (verdict_written b w))
 
 -- Over 60,000 bytes are refused with 1, whatever they hold.
-pub long_refused : (s : List ℕ) → 60000 < length s → verdict s ≡ Refused 1 0
+pub long_refused : (s : List ℕ) → 60000 < length s → verdict s ≡ refused BookTooLong 0
 unfolding verdict begin end
-long_refused s h = rw (verdict, lt-ltb 60000 (length s) h, (codec_inverse book).stays s 1 0)
+long_refused s h = rw (verdict, lt-ltb 60000 (length s) h, (codec_inverse book).stays s (record { reason = BookTooLong; place = 0 }))
 
 -- 5. A verdict that is no refusal accepts, and so does an answer that is none.
-pub verdict_accepts : (s : List ℕ) → Bytes s → (j : ℕ) → verdict s ≡ At j → Accepted s
+pub verdict_accepts : (s : List ℕ) → Bytes s → (j : ℕ) → verdict s ≡ Ok j → Accepted s
 verdict_accepts s b j h = let z : j ≡ length s = ends s j h b in record { bytes = b; whole = rw (← z) h }
 
-answer_at : (c : Pos) → answer_of c ≡ answer.Accepted → (j : ℕ) × (c ≡ At j)
+answer_at : (c : Pos) → answer_of c ≡ Ok tt → (j : ℕ) × (c ≡ Ok j)
 unfolding answer_of
-answer_at (At j) h = (j, refl)
-answer_at (Refused e p) h = let z : ◌≡◌ {A = ℕ} 0 1 = cc in absurd (omega arith)
+answer_at (Ok j) h = (j, refl)
+answer_at (Err e) h = let z : ◌≡◌ {A = ℕ} 0 1 = cc in absurd (omega arith)
 
-pub answer_accepts : (s : List ℕ) → Bytes s → answer_of (verdict s) ≡ answer.Accepted → Accepted s
+pub answer_accepts : (s : List ℕ) → Bytes s → answer_of (verdict s) ≡ Ok tt → Accepted s
 answer_accepts s b h = let j = answer_at (verdict s) h in verdict_accepts s b j.0 j.1
 
-pub accepted_answer : (s : List ℕ) → Accepted s → answer_of (verdict s) ≡ answer.Accepted
+pub accepted_answer : (s : List ℕ) → Accepted s → answer_of (verdict s) ≡ Ok tt
 unfolding answer_of
 accepted_answer s w = rw w.whole

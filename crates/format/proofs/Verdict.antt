@@ -1,4 +1,5 @@
 -- Reading a whole byte string: where it begins and where it ends.
+use Rattle.std.specs.Prelude.{Err, Ok}
 use Prim.Native.Nat.{ℕ, ◌+◌, ◌≤◌}
 use native.Mathlib.Omega.{arith}
 use mathlib.Core.Path.{◌≡◌, refl, ap, sym, ◌∙◌}
@@ -7,50 +8,50 @@ use mathlib.Core.List.{List, [], append-nil}
 use lib.ListN.{length, length-append}
 use lib.Dec.{ltb}
 use borrow.Author.Tests.{le-ltb, ltb-false}
-use Rattle.format.specs.declared.Pos.{Pos}
-use Rattle.format.specs.declared.Pos.TheVariants.{At, Refused}
 use Rattle.format.specs.Reader.{place_of}
 use Rattle.format.specs.Bytes.{Bytes}
 use Rattle.format.specs.Inverse.{Held, never, at_of}
 use Rattle.format.specs.Book.{Book}
 use Rattle.format.specs.Format.{book}
 use Rattle.format.specs.Verdict.{begin, end, verdict, content, WellFormed}
+use Rattle.format.specs.declared.Reason.TheVariants.{BookTooLong, BytesLeft}
 use Rattle.format.proofs.Sound.{codec_inverse, codec_within}
+use Rattle.format.specs.Position.{Pos, refused}
 
 module _ (b : Book) (w : WellFormed b) where
-  pub read_written : book.read (book.write b) (begin (book.write b)) ≡ (b, At (length (book.write b)))
+  pub read_written : book.read (book.write b) (begin (book.write b)) ≡ (b, Ok (length (book.write b)))
   unfolding begin
   read_written =
       let s = book.write b in
       let z : 0 + length s ≡ length s = omega arith in
       rw (begin, le-ltb 60000 (length s) w.short) (rw z at ((codec_inverse book).forth b w.fields s [] 0 (sym (append-nil s))))
 
-  pub verdict_written : verdict (book.write b) ≡ At (length (book.write b))
+  pub verdict_written : verdict (book.write b) ≡ Ok (length (book.write b))
   unfolding verdict end
   verdict_written = rw (verdict, read_written, le-ltb (length (book.write b)) (length (book.write b)) (omega arith))
 
-end_at : (s : List ℕ) (c : Pos) (j : ℕ) → end s c ≡ At j → (c ≡ At j) × (length s ≤ j)
+end_at : (s : List ℕ) (c : Pos) (j : ℕ) → end s c ≡ Ok j → (c ≡ Ok j) × (length s ≤ j)
 unfolding end
-end_at s (Refused e p) j h = never h
-end_at s (At i) j h = go (ltb i (length s)) refl
+end_at s (Err e) j h = never h
+end_at s (Ok i) j h = go (ltb i (length s)) refl
   where
-    go : (b : Bool) → ltb i (length s) ≡ b → (At i ≡ At j) × (length s ≤ j)
+    go : (b : Bool) → ltb i (length s) ≡ b → ◌≡◌ {A = Pos} (Ok i) (Ok j) × (length s ≤ j)
     go true e = never (rw e at h)
-    go false e = let q : At i ≡ At j = rw e at h in (q, rw (← at_of q) (ltb-false i (length s) e))
+    go false e = let q : ◌≡◌ {A = Pos} (Ok i) (Ok j) = rw e at h in (q, rw (← at_of q) (ltb-false i (length s) e))
 
-module _ (s : List ℕ) (j : ℕ) (h : verdict s ≡ At j) where
-  read_end : ((book.read s (begin s)).1 ≡ At j) × (length s ≤ j)
+module _ (s : List ℕ) (j : ℕ) (h : verdict s ≡ Ok j) where
+  read_end : ((book.read s (begin s)).1 ≡ Ok j) × (length s ≤ j)
   unfolding verdict
   read_end = end_at s (book.read s (begin s)).1 j h
 
-  pub begins : (length s ≤ 60000) × (begin s ≡ At 0)
+  pub begins : (length s ≤ 60000) × (begin s ≡ Ok 0)
   unfolding begin
   begins = go (ltb 60000 (length s)) refl read_end.0
     where
       go :
-          (b : Bool) → ltb 60000 (length s) ≡ b → (book.read s (cond b (Refused 1 0) (At 0))).1 ≡ At j →
-          (length s ≤ 60000) × (begin s ≡ At 0)
-      go true e k = never (sym ((codec_inverse book).stays s 1 0) ∙ k)
+          (b : Bool) → ltb 60000 (length s) ≡ b → (book.read s (cond b (refused BookTooLong 0) (Ok 0))).1 ≡ Ok j →
+          (length s ≤ 60000) × (begin s ≡ Ok 0)
+      go true e k = never (sym ((codec_inverse book).stays s (record { reason = BookTooLong; place = 0 })) ∙ k)
       go false e k = (ltb-false 60000 (length s) e, rw e)
 
   pub held : Bytes s → Held book.write book.ok s 0 j (content s)
@@ -64,16 +65,16 @@ begin_place : (s : List ℕ) → place_of (begin s) ≤ length s
 unfolding begin place_of
 begin_place s = go (ltb 60000 (length s))
   where
-    go : (b : Bool) → place_of (cond b (Refused 1 0) (At 0)) ≤ length s
+    go : (b : Bool) → place_of (cond b (refused BookTooLong 0) (Ok 0)) ≤ length s
     go true = omega arith
     go false = omega arith
 
 end_place : (s : List ℕ) (c : Pos) → place_of c ≤ length s → place_of (end s c) ≤ length s
 unfolding end place_of
-end_place s (Refused e p) h = h
-end_place s (At i) h = go (ltb i (length s))
+end_place s (Err e) h = h
+end_place s (Ok i) h = go (ltb i (length s))
   where
-    go : (b : Bool) → place_of (cond b (Refused 7 i) (At i)) ≤ length s
+    go : (b : Bool) → place_of (cond b (refused BytesLeft i) (Ok i)) ≤ length s
     go true = h
     go false = h
 

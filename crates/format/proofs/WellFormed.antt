@@ -1,11 +1,11 @@
 -- A book that keeps the limits and ranges is well-formed: they say all that the format asks of its fields.
+use Rattle.std.specs.Prelude.{None, Option, Some}
 use Prim.Native.Nat.{ℕ, zero, suc, ◌≤◌, ◌<◌, suc-le-suc}
 use native.Mathlib.Nat.{not-suc-le-zero, le_of_suc-le-suc}
 use native.Mathlib.Omega.{arith}
 use mathlib.Core.Path.{◌≡◌, refl, ap}
 use mathlib.Core.Bool.{Bool, true, false, cond}
 use mathlib.Core.List.{List, [], ◌∷◌, map}
-use mathlib.Core.Option.{Option, none, some}
 use lib.ListN.{length, get_or, length-map}
 use lib.IntN.{ℤ}
 use borrow.Author.Tests.{lt-ltb, eqb-true}
@@ -22,7 +22,7 @@ use Rattle.format.specs.declared.Accrual.TheVariants.{Start, End, Uniform}
 use Rattle.format.specs.declared.ChangeStatus.{ChangeStatus}
 use Rattle.format.specs.declared.ChangeStatus.TheVariants.{Pending, Approved, NotApproved}
 use Rattle.format.specs.declared.Region.{Region}
-use Rattle.format.specs.declared.Region.TheVariants.{None, Brazil}
+use Rattle.format.specs.declared.Region.TheVariants as regions
 use Rattle.format.specs.NumberLaws.{false_true}
 use Rattle.format.specs.Signed.{fits_sendable}
 use Rattle.format.specs.Inverse.{Range, Given, Each}
@@ -79,8 +79,8 @@ change_status_ok NotApproved = omega arith
 
 region_ok : (a : Region) → region.ok a
 unfolding region region_number enumeration iso field range
-region_ok None = omega arith
-region_ok Brazil = omega arith
+region_ok regions.None = omega arith
+region_ok regions.Brazil = omega arith
 
 working_ok : (a : Bool) → working.ok a
 unfolding working working_number enumeration iso field range
@@ -145,12 +145,12 @@ exceptions_ok l h =
 
 names_same : (a b : Option ℕ) → names a b ≡ true → a ≡ b
 unfolding names
-names_same none none h = refl
-names_same none (some b) h = false_true h
-names_same (some a) none h = false_true h
-names_same (some a) (some b) h = ap some (eqb-true a b h)
+names_same None None h = refl
+names_same None (Some b) h = false_true h
+names_same (Some a) None h = false_true h
+names_same (Some a) (Some b) h = ap Some (eqb-true a b h)
 
-is_new_lem : (before : List (Option ℕ)) (a : Option ℕ) → ((i : ℕ) → i < length before → get_or before i none ≡ a → ⊥) → is_new before a ≡ true
+is_new_lem : (before : List (Option ℕ)) (a : Option ℕ) → ((i : ℕ) → i < length before → get_or before i None ≡ a → ⊥) → is_new before a ≡ true
 unfolding is_new
 is_new_lem [] a h = refl
 is_new_lem (b ∷ before) a h = go (names b a) refl (is_new_lem before a (λ i l. h (suc i) (suc-le-suc l)))
@@ -160,7 +160,7 @@ is_new_lem (b ∷ before) a h = go (names b a) refl (is_new_lem before a (λ i l
     go false e ih = ih
 
 new_from :
-    (before l : List (Option ℕ)) → ((i k : ℕ) → i < length before → k < length l → get_or before i none ≡ get_or l k none → ⊥) →
+    (before l : List (Option ℕ)) → ((i k : ℕ) → i < length before → k < length l → get_or before i None ≡ get_or l k None → ⊥) →
     NoTwoAlike l → NewFrom before l
 unfolding NewFrom
 new_from before [] o h = tt
@@ -168,7 +168,7 @@ new_from before (a ∷ as') o h =
     let first = is_new_lem before a (λ i l. o i 0 l (omega arith)) in
     (first, new_from (a ∷ before) as' outside (λ j k m l. h (suc j) (suc k) (suc-le-suc m) (suc-le-suc l)))
   where
-    outside : (i k : ℕ) → i < suc (length before) → k < length as' → get_or (a ∷ before) i none ≡ get_or as' k none → ⊥
+    outside : (i k : ℕ) → i < suc (length before) → k < length as' → get_or (a ∷ before) i None ≡ get_or as' k None → ⊥
     outside zero k m l e = h 0 (suc k) (omega arith) (suc-le-suc l) e
     outside (suc i) k m l e = o i (suc k) (le_of_suc-le-suc m) (suc-le-suc l) e
 
@@ -245,8 +245,8 @@ module _ (activities : ℕ) (n : activities ≤ 500) where
 
   baseline_ok : (o : Option (List BaselineLine)) → Given (BaselineInRange activities) o → (marked (up_to 1000 (baseline_line activities))).ok o
   unfolding marked iso ◌then◌ when field range
-  baseline_ok none h = (omega arith, tt)
-  baseline_ok (some l) h = (omega arith, up_to_ok 1000 (omega arith) (baseline_line activities) line_ok l h.most h.lines)
+  baseline_ok None h = (omega arith, tt)
+  baseline_ok (Some l) h = (omega arith, up_to_ok 1000 (omega arith) (baseline_line activities) line_ok l h.most h.lines)
 
   budgets_from_lem :
       (before : List (Option ℕ)) (l : List Budget) → Every (BudgetInRange activities) l →

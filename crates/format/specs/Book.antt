@@ -1,6 +1,5 @@
 -- What a book holds, decoded. Dates are counts of days from 1 January 1970, money is in hundredths, an index counts from 0.
-use Rattle.std.specs.Prelude.{ℕ, Bool, List, ℤ}
-use Rattle.std.proofs.Math.Option.{Option}
+use Rattle.std.specs.Prelude.{ℕ, Bool, List, ℤ, Option}
 use Rattle.format.specs.declared.Status.{Status}
 use Rattle.format.specs.declared.EvTechnique.{EvTechnique}
 use Rattle.format.specs.declared.EtcTechnique.{EtcTechnique}

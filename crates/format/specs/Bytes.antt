@@ -1,7 +1,6 @@
 -- What is written are bytes.
-use Rattle.std.specs.Prelude.{ℕ, zero, suc, ◌+◌, ◌/◌, ◌%◌, ◌<◌, ◌≡◌, refl, Bool, true, false, cond, List, [], ◌∷◌, ◌++◌, get_or, ltb}
+use Rattle.std.specs.Prelude.{ℕ, zero, suc, ◌+◌, ◌/◌, ◌%◌, ◌<◌, ◌≡◌, refl, Bool, true, false, cond, List, [], ◌∷◌, ◌++◌, get_or, ltb, None, Option, Some}
 use Rattle.std.proofs.Common.{arith, ltb-true}
-use Rattle.std.proofs.Math.Option.{Option, none, some}
 use Rattle.format.specs.Number.{write_groups, write_number}
 use Rattle.format.specs.Reader.{Writer, write_optional, write_both, write_many, write_given}
 
@@ -37,8 +36,8 @@ number_bytes n = groups_bytes 10 n
 
 pub optional_bytes : {A : Type 0} (w : Writer A) → ((a : A) → Bytes (w a)) → (o : Option A) → Bytes (write_optional w o)
 unfolding write_optional
-optional_bytes w h none = number_bytes 0
-optional_bytes w h (some a) = append_bytes (write_number 1) (w a) (number_bytes 1) (h a)
+optional_bytes w h None = number_bytes 0
+optional_bytes w h (Some a) = append_bytes (write_number 1) (w a) (number_bytes 1) (h a)
 
 pub both_bytes :
     {A B : Type 0} (w : Writer A) (u : A → Writer B) → ((a : A) → Bytes (w a)) → ((a : A) (b : B) → Bytes (u a b)) → (v : A × B) →
@@ -55,5 +54,5 @@ many_bytes w f h x (a ∷ l) = append_bytes (w x a) (write_many w f (f x a) l) (
 
 pub given_bytes : {A : Type 0} (w : Writer A) → ((a : A) → Bytes (w a)) → (o : Option A) → Bytes (write_given w o)
 unfolding write_given
-given_bytes w h none = no_bytes
-given_bytes w h (some a) = h a
+given_bytes w h None = no_bytes
+given_bytes w h (Some a) = h a

@@ -1,7 +1,6 @@
 -- A format, said once: how a value is read, with its refusals, how it is written, which values are well-formed, and the laws between them.
-use Rattle.std.specs.Prelude.{ℕ, ◌<◌, ◌≡◌, refl, Bool, true, false, List, length, eqb}
+use Rattle.std.specs.Prelude.{ℕ, ◌<◌, ◌≡◌, refl, Bool, true, false, List, length, eqb, None, Option, Some}
 use Rattle.std.proofs.Common.{arith, ap, eqb-true}
-use Rattle.std.proofs.Math.Option.{Option, none, some}
 use Rattle.std.proofs.lemmas.Bool.{eqb-false}
 use Rattle.format.specs.Bytes.{Bytes, optional_bytes, both_bytes, many_bytes, given_bytes}
 use Rattle.format.specs.Reader.{Reader, Writer, here, optional, write_optional, both, write_both, mapped, many, write_many, given, write_given, passing}
@@ -9,6 +8,7 @@ use Rattle.format.specs.Sound.{Sound}
 use Rattle.format.specs.Inverse.{Inverse, Given, GivenIf, Each, here_inverse, optional_inverse, both_inverse, mapped_inverse, many_inverse, given_inverse, passing_inverse}
 use Rattle.format.specs.Within.{Within, here_within, optional_within, both_within, mapped_within, many_within, given_within, passing_within}
 use Rattle.format.specs.Field.{Kind, range, U, count}
+use Rattle.format.specs.declared.Reason.{Reason}
 
 -- `ok`: which values are well-formed; `bytes`: what is written are bytes; `within`: no place is beyond the length
 pub record Codec (A : Type 0) : Type 1 where
@@ -85,7 +85,7 @@ iso c f g fg gf =
     }
 
 -- what a test refuses with `code` at the place where it begins; it then reads as d
-unfoldable pub test : {A : Type 0} → A → (A → Bool) → ℕ → Codec A → Codec A
+unfoldable pub test : {A : Type 0} → A → (A → Bool) → Reason → Codec A → Codec A
 test d t code c =
     record {
       read = passing d t code c.read;
@@ -110,14 +110,14 @@ when b c =
 
 -- the mark: 0 for none, 1 before a value
 abbrev pub mark_of : {A : Type 0} → Option A → ℕ
-mark_of none = 0
-mark_of (some a) = 1
+mark_of None = 0
+mark_of (Some a) = 1
 
 pub mark_back : {A : Type 0} (ok : A → Type 0) (m : ℕ) → m < 2 → (b : Bool) → eqb m 1 ≡ b → (o : Option A) → GivenIf ok b o → mark_of o ≡ m
-mark_back ok m l true e none h = absurd h
-mark_back ok m l true e (some a) h = omega (arith, eqb-true m 1 e)
-mark_back ok m l false e none h = omega (arith, eqb-false m 1 e)
-mark_back ok m l false e (some a) h = absurd h
+mark_back ok m l true e None h = absurd h
+mark_back ok m l true e (Some a) h = omega (arith, eqb-true m 1 e)
+mark_back ok m l false e None h = omega (arith, eqb-false m 1 e)
+mark_back ok m l false e (Some a) h = absurd h
 
 -- U 0, or 1 then what c says, which is refused at its own places
 unfoldable pub marked : {A : Type 0} → Codec A → Codec (Option A)

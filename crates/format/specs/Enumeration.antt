@@ -1,8 +1,7 @@
 -- The enums of the book: each is a U, numbered from 0 in the order of the Rust's enum.
-use Rattle.std.specs.Prelude.{ℕ, zero, suc, ◌≤◌, ◌<◌, ◌≡◌, refl, Bool, true, false, cond, eqb, ℤ}
+use Rattle.std.specs.Prelude.{ℕ, zero, suc, ◌≤◌, ◌<◌, ◌≡◌, refl, Bool, true, false, cond, eqb, ℤ, None, Option, Some}
 use Rattle.std.proofs.Common.{le_of_suc-le-suc, arith, ap, sym, eqb-true}
 use Rattle.std.proofs.Math.Decide.{dec_lt}
-use Rattle.std.proofs.Math.Option.{Option, none, some}
 use Rattle.std.proofs.lemmas.Bool.{eqb-false}
 use Rattle.format.specs.declared.Status.{Status}
 use Rattle.format.specs.declared.Status.TheVariants.{NotStarted, InProgress, Completed}
@@ -17,7 +16,7 @@ use Rattle.format.specs.declared.Accrual.TheVariants.{Start, End, Uniform}
 use Rattle.format.specs.declared.ChangeStatus.{ChangeStatus}
 use Rattle.format.specs.declared.ChangeStatus.TheVariants.{Pending, Approved, NotApproved}
 use Rattle.format.specs.declared.Region.{Region}
-use Rattle.format.specs.declared.Region.TheVariants.{None, Brazil}
+use Rattle.format.specs.declared.Region.TheVariants as regions
 use Rattle.format.specs.Signed.{Sendable}
 use Rattle.format.specs.Inverse.{GivenIf}
 use Rattle.format.specs.Field.{range, U, S}
@@ -143,16 +142,16 @@ change_status = enumeration 2 change_status_of change_status_number change_statu
 
 -- region U: 0 none, 1 Brazil
 unfoldable pub region_of : ℕ → Region
-region_of v = cond (eqb v 0) None Brazil
+region_of v = cond (eqb v 0) regions.None regions.Brazil
 
 unfoldable pub region_number : Region → ℕ
-region_number None = 0
-region_number Brazil = 1
+region_number regions.None = 0
+region_number regions.Brazil = 1
 
 pub region_back : (a : Region) → region_of (region_number a) ≡ a
 unfolding region_of region_number
-region_back None = refl
-region_back Brazil = refl
+region_back regions.None = refl
+region_back regions.Brazil = refl
 
 unfoldable pub region : Codec Region
 unfolding region_of region_number
@@ -177,16 +176,16 @@ working = enumeration 1 working_of working_number working_back (refl, refl)
 
 -- technique U 0..5, after 5 an S share
 unfoldable pub technique_of : ℕ → Option ℤ → EvTechnique
-technique_of v none = cond (eqb v 0) Physical (cond (eqb v 1) Duration (cond (eqb v 2) Units (cond (eqb v 3) ZeroHundred FiftyFifty)))
-technique_of v (some share) = Custom share
+technique_of v None = cond (eqb v 0) Physical (cond (eqb v 1) Duration (cond (eqb v 2) Units (cond (eqb v 3) ZeroHundred FiftyFifty)))
+technique_of v (Some share) = Custom share
 
 unfoldable pub technique_parts : EvTechnique → ℕ × Option ℤ
-technique_parts Physical = (0, none)
-technique_parts Duration = (1, none)
-technique_parts Units = (2, none)
-technique_parts ZeroHundred = (3, none)
-technique_parts FiftyFifty = (4, none)
-technique_parts (Custom share) = (5, some share)
+technique_parts Physical = (0, None)
+technique_parts Duration = (1, None)
+technique_parts Units = (2, None)
+technique_parts ZeroHundred = (3, None)
+technique_parts FiftyFifty = (4, None)
+technique_parts (Custom share) = (5, Some share)
 
 pub technique_back : (a : EvTechnique) → technique_of (technique_parts a).0 (technique_parts a).1 ≡ a
 unfolding technique_of technique_parts
@@ -197,7 +196,7 @@ technique_back ZeroHundred = refl
 technique_back FiftyFifty = refl
 technique_back (Custom share) = refl
 
-technique_plain : (v : ℕ) → v < 5 → technique_parts (technique_of v none) ≡ (v, none)
+technique_plain : (v : ℕ) → v < 5 → technique_parts (technique_of v None) ≡ (v, None)
 unfolding technique_of technique_parts
 technique_plain zero l = refl
 technique_plain (suc zero) l = refl
@@ -209,10 +208,10 @@ technique_plain (suc (suc (suc (suc (suc v))))) l = absurd (omega arith)
 pub technique_parts_lem :
     (v : ℕ) → v < 6 → (b : Bool) → eqb v 5 ≡ b → (o : Option ℤ) → GivenIf Sendable b o → technique_parts (technique_of v o) ≡ (v, o)
 unfolding technique_of technique_parts
-technique_parts_lem v l true e none h = absurd h
-technique_parts_lem v l true e (some z) h = ap (λ (n : ℕ). (n, some z)) (sym (eqb-true v 5 e))
-technique_parts_lem v l false e none h = technique_plain v (omega (arith, eqb-false v 5 e))
-technique_parts_lem v l false e (some z) h = absurd h
+technique_parts_lem v l true e None h = absurd h
+technique_parts_lem v l true e (Some z) h = ap (λ (n : ℕ). (n, Some z)) (sym (eqb-true v 5 e))
+technique_parts_lem v l false e None h = technique_plain v (omega (arith, eqb-false v 5 e))
+technique_parts_lem v l false e (Some z) h = absurd h
 
 unfoldable pub technique : Codec EvTechnique
 unfolding ◌then◌ field range when S

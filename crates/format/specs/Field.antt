@@ -7,6 +7,8 @@ use Rattle.format.specs.Sound.{Sound}
 use Rattle.format.specs.Inverse.{Inverse, Range, ranged_inverse}
 use Rattle.format.specs.Within.{WithinAt, ranged_within}
 use Rattle.format.specs.Signed.{signed, write_signed, Sendable, signed_inverse, signed_bytes, signed_within}
+use Rattle.format.specs.declared.Reason.{Reason}
+use Rattle.format.specs.declared.Reason.TheVariants.{OutOfRange, CountOutOfRange}
 
 -- a kind of field: how it is read, with the place at which its range is refused, how it is written, and which values are well-formed
 pub record Kind (A : Type 0) : Type 1 where
@@ -18,7 +20,7 @@ pub record Kind (A : Type 0) : Type 1 where
   pub within : WithinAt read
 
 -- a number from `low` to below `bound`; outside, the refusal `code`
-unfoldable pub range : ℕ → ℕ → ℕ → Kind ℕ
+unfoldable pub range : ℕ → ℕ → Reason → Kind ℕ
 range low bound code =
     record {
       read = ranged low bound code;
@@ -31,7 +33,7 @@ range low bound code =
 
 -- U: a number, here from `low` to `most`, else refusal 4
 abbrev pub U : ℕ → ℕ → Kind ℕ
-U low most = range low (suc most) 4
+U low most = range low (suc most) OutOfRange
 
 -- D: the count of days from 1 January 1970, in the years 2000 to 2099
 abbrev pub D : Kind ℕ
@@ -39,7 +41,7 @@ D = U 10957 47481
 
 -- an index: below the count of what it names, else refusal 4
 abbrev pub index : ℕ → Kind ℕ
-index named = range 0 named 4
+index named = range 0 named OutOfRange
 
 -- minutes: U up to 1,000,000,000
 abbrev pub minutes : Kind ℕ
@@ -47,7 +49,7 @@ minutes = U 0 1000000000
 
 -- the count that leads a list: from `low` to `most`, else refusal 5
 abbrev pub count : ℕ → ℕ → Kind ℕ
-count low most = range low (suc most) 5
+count low most = range low (suc most) CountOutOfRange
 
 -- S: a signed number; no range, as every number stands for one
 unfoldable pub S : Kind ℤ

@@ -1,11 +1,11 @@
 -- The format of the book, edition 1, in document 01's order: beside each line, its words.
-use Rattle.std.specs.Prelude.{ℕ, ◌≡◌, refl, Bool, true, false, cond, List, [], ◌∷◌, eqb, ltb, ℤ}
+use Rattle.std.specs.Prelude.{ℕ, ◌≡◌, refl, Bool, true, false, cond, List, [], ◌∷◌, eqb, ltb, ℤ, None, Option, Some}
 use Rattle.std.proofs.Common.{arith, ap}
-use Rattle.std.proofs.Math.Option.{Option, none, some}
 use Rattle.format.specs.Field.{range, U, S, D, index, minutes}
 use Rattle.format.specs.Codec.{Codec, field, O, ◌then◌, ◌&◌, ◌and◌, iso, test, marked, list, up_to, counted}
 use Rattle.format.specs.Enumeration.{status, technique, forecast, resource_kind, accrual, change_status, region, working}
 use Rattle.format.specs.Book.{Exception, Calendar, Activity, Price, Resource, Assignment, Expense, BaselineLine, Budget, BudgetChange, PeriodRecord, Book}
+use Rattle.format.specs.declared.Reason.TheVariants.{OutOfOrder}
 
 -- S, in a field
 abbrev pub amount : Codec ℤ
@@ -15,7 +15,7 @@ amount = field S
 
 -- strictly rising D: above the one before it, else refusal 6
 unfoldable pub rising : ℕ → Codec ℕ
-rising before = test 0 (λ day. ltb before day) 6 (field D)
+rising before = test 0 (λ day. ltb before day) OutOfOrder (field D)
 
 -- holidays or extra days up to 366 with strictly rising D; the first is above 0, as every D is
 unfoldable pub days : Codec (List ℕ)
@@ -145,10 +145,10 @@ baseline_line activities =
 
 -- whether a names what b names
 unfoldable pub names : Option ℕ → Option ℕ → Bool
-names none none = true
-names none (some b) = false
-names (some a) none = false
-names (some a) (some b) = eqb a b
+names None None = true
+names None (Some b) = false
+names (Some a) None = false
+names (Some a) (Some b) = eqb a b
 
 -- whether none of `before` names what a names
 unfoldable pub is_new : List (Option ℕ) → Option ℕ → Bool
@@ -158,7 +158,7 @@ is_new (b ∷ before) a = cond (names b a) false (is_new before a)
 unfoldable pub budget : ℕ → List (Option ℕ) → Codec Budget
 budget activities before =
     iso
-    (test none (is_new before) 6 (O (index activities))  -- activity O index (none is the project; no two alike, else refusal 6)
+    (test None (is_new before) OutOfOrder (O (index activities))  -- activity O index (none is the project; no two alike, else refusal 6)
     & amount  -- original S
     & up_to 120 amount)  -- up to 120 plan amounts S
     (λ (a, (o, p)). record { activity = a; original = o; plan = p })

@@ -1,6 +1,5 @@
 -- What holds of the content of every accepted book, field by field.
-use Rattle.std.specs.Prelude.{ℕ, ◌≤◌, ◌<◌, ◌≡◌, List, map, length, get_or, ℤ}
-use Rattle.std.proofs.Math.Option.{Option, none}
+use Rattle.std.specs.Prelude.{ℕ, ◌≤◌, ◌<◌, ◌≡◌, List, map, length, get_or, ℤ, None, Option}
 use Rattle.std.specs.Int.{w64}
 use Rattle.std.proofs.Common.{SFits}
 use Rattle.format.specs.declared.EvTechnique.TheVariants.{Custom}
@@ -34,7 +33,7 @@ Rising l = (j k : ℕ) → j < k → k < length l → get_or l j 0 < get_or l k 
 
 -- no two alike; none is the project
 abbrev pub NoTwoAlike : List (Option ℕ) → Type 0
-NoTwoAlike l = (j k : ℕ) → j < k → k < length l → get_or l j none ≡ get_or l k none → ⊥
+NoTwoAlike l = (j k : ℕ) → j < k → k < length l → get_or l j None ≡ get_or l k None → ⊥
 
 -- the days of holidays, extra days or exceptions
 pub record Days (l : List ℕ) : Type 0 where

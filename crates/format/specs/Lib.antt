@@ -1,4 +1,6 @@
 -- Read Book, Format and Verdict first: what a book holds, how it is written, what is accepted.
+pub mod Position
+pub mod Refusals
 pub mod Number
 pub mod Reader
 pub mod Bytes

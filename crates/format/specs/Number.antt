@@ -1,7 +1,8 @@
 -- A number of the book: groups of seven bits, lowest group first, top bit set on all bytes but the last, shortest form only, below 2^64.
-use Rattle.std.specs.Prelude.{ℕ, zero, suc, ◌+◌, ◌-◌, ◌*◌, ◌/◌, ◌%◌, Bool, false, cond, List, [], ◌∷◌, length, get_or, ltb, leb, eqb}
-use Rattle.format.specs.declared.Num.{Num}
-use Rattle.format.specs.declared.Num.TheVariants.{Value, Refused}
+use Rattle.std.specs.Prelude.{ℕ, zero, suc, ◌+◌, ◌-◌, ◌*◌, ◌/◌, ◌%◌, Bool, false, cond, List, [], ◌∷◌, length, get_or, ltb, leb, eqb, Err, Ok}
+use Rattle.format.specs.declared.Reason.TheVariants.{EndsEarly, NotShortest}
+use Rattle.format.specs.Position.{Num, refused}
+use Rattle.format.specs.declared.Reason.{Reason}
 
 -- refusal 3, where `left` of ten bytes are left: a last byte 0 behind others, or a tenth byte above 1
 unfoldable pub wrong_group : ℕ → ℕ → Bool
@@ -9,19 +10,19 @@ wrong_group left b = cond (eqb b 0) (ltb left 10) (cond (eqb left 1) (ltb 1 b) f
 
 -- `low` and `scale` times the number that follows
 unfoldable pub onto : ℕ → ℕ → Num → Num
-onto low scale (Value v next) = Value (low + scale * v) next
-onto low scale (Refused e p) = Refused e p
+onto low scale (Ok (v, next)) = Ok (low + scale * v, next)
+onto low scale (Err e) = Err e
 
 -- at most `left` groups from `at` on, of the number that begins at `place`
 unfoldable pub groups : ℕ → List ℕ → ℕ → ℕ → Num
-groups zero s place at = Refused 3 place
+groups zero s place at = refused NotShortest place
 groups (suc left) s place at =
     cond (leb (length s) at)
-    (Refused 2 (length s))
+    (refused EndsEarly (length s))
     (cond (wrong_group (suc left) (get_or s at 0))
-    (Refused 3 place)
+    (refused NotShortest place)
     (cond (ltb (get_or s at 0) 128)
-    (Value (get_or s at 0) (at + 1))
+    (Ok (get_or s at 0, at + 1))
     (onto (get_or s at 0 - 128) 128 (groups left s place (at + 1)))))
 
 -- the number that begins at `place`
@@ -29,9 +30,9 @@ unfoldable pub number_at : List ℕ → ℕ → Num
 number_at s place = groups 10 s place place
 
 -- the number, where it is from `low` to below `bound`; outside, the refusal `code` at `place`
-unfoldable pub in_range : ℕ → ℕ → ℕ → ℕ → Num → Num
-in_range low bound code place (Value v next) = cond (ltb v low) (Refused code place) (cond (ltb v bound) (Value v next) (Refused code place))
-in_range low bound code place (Refused e p) = Refused e p
+unfoldable pub in_range : ℕ → ℕ → Reason → ℕ → Num → Num
+in_range low bound code place (Ok (v, next)) = cond (ltb v low) (refused code place) (cond (ltb v bound) (Ok (v, next)) (refused code place))
+in_range low bound code place (Err e) = Err e
 
 -- n in at most `left` groups
 unfoldable pub write_groups : ℕ → ℕ → List ℕ

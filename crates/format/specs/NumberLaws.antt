@@ -3,16 +3,17 @@ use Prim.Native.Nat.{ℕ, zero, suc, ◌+◌, ◌-◌, ◌*◌, ◌/◌, ◌%◌
 use Rattle.std.proofs.Common.{pow-suc, add-one, ap, sym, ◌∙◌, length-drop, get_or-drop, drop-drop, drop-cons}
 use native.Mathlib.Omega.{arith}
 use Rattle.std.proofs.Math.Decide.{dec_lt}
-use Rattle.std.specs.Prelude.{◌≡◌, Bool, cond, List, [], ◌∷◌, ◌++◌, length, get_or, drop, ltb, leb}
+use Rattle.std.specs.Prelude.{◌≡◌, Bool, cond, List, [], ◌∷◌, ◌++◌, length, get_or, drop, ltb, leb, Err, Ok}
 use Rattle.std.proofs.Math.Path.{refl}
 use Rattle.std.proofs.Math.Bool.{true, false}
 use Rattle.std.proofs.Math.Seq.{drop-append_seam}
 use borrow.Author.Tests.{lt-leb, lt-ltb, le-ltb, ne_eqb, ltb-true, ltb-false, leb-false}
-use Rattle.format.specs.declared.Num.{Num}
-use Rattle.format.specs.declared.Num.TheVariants.{Value, Refused}
 use Rattle.format.specs.Bytes.{Bytes}
 use Rattle.format.specs.Number.{wrong_group, onto, groups, number_at, write_groups, write_number}
 use Rattle.format.specs.Sound.{Sound}
+use Rattle.format.specs.declared.Reason.TheVariants.{EndsEarly, NotShortest}
+use Rattle.format.specs.Position.{Num, refused}
+use Rattle.format.specs.declared.Refusal.{Refusal}
 
 -- ---- bytes from a position on
 
@@ -33,7 +34,7 @@ module _ (s : List ℕ) (i b : ℕ) (t : List ℕ) (e : drop i s ≡ b ∷ t) wh
 -- ---- one group
 
 module _ (s : List ℕ) (place at left b : ℕ) (i : at < length s) (e : get_or s at 0 ≡ b) where
-  group_last : wrong_group (suc left) b ≡ false → b < 128 → groups (suc left) s place at ≡ Value b (at + 1)
+  group_last : wrong_group (suc left) b ≡ false → b < 128 → groups (suc left) s place at ≡ Ok (b, at + 1)
   unfolding groups
   group_last w h = rw (lt-leb _ _ i, e, w, lt-ltb _ _ h)
 
@@ -73,7 +74,7 @@ record Writable (k n : ℕ) : Type 0 where
 Forth : ℕ → ℕ → Type 0
 Forth k n =
     (s rest : List ℕ) (place at : ℕ) → drop at s ≡ write_groups (suc k) n ++ rest →
-    groups (suc k) s place at ≡ Value n (at + length (write_groups (suc k) n))
+    groups (suc k) s place at ≡ Ok (n, at + length (write_groups (suc k) n))
 
 forth_last : Sound → (k n : ℕ) → n < 128 → Writable k n → Forth k n
 unfolding Forth
@@ -107,7 +108,7 @@ groups_forth sound (suc k) n u = go (dec_lt n 128) (groups_forth sound k (n / 12
 
 pub number_forth :
     Sound → (n : ℕ) → n < 2 ^ 64 → (s rest : List ℕ) (at : ℕ) → drop at s ≡ write_number n ++ rest →
-    number_at s at ≡ Value n (at + length (write_number n))
+    number_at s at ≡ Ok (n, at + length (write_number n))
 unfolding number_at write_number Forth
 number_forth sound n h s rest at e = groups_forth sound 9 n (record { small = h; some = λ q. absurd (omega arith) }) s rest at at e
 
@@ -119,14 +120,17 @@ record Written (k : ℕ) (s : List ℕ) (at v next : ℕ) : Type 0 where
   text : drop at s ≡ write_groups (suc k) v ++ drop next s
   long : next ≡ at + length (write_groups (suc k) v)
 
-clash : {A : Type 0} {e p v n : ℕ} → Refused e p ≡ Value v n → A
+clash : {A : Type 0} {e : Refusal} {v n : ℕ} → ◌≡◌ {A = Num} (Err e) (Ok (v, n)) → A
 clash h = let z : ◌≡◌ {A = ℕ} 0 1 = cc in absurd (omega arith)
 
-value_of : {v n v' n' : ℕ} → Value v n ≡ Value v' n' → v ≡ v'
-value_of h = cc
+read_of : {x y : ℕ × ℕ} → ◌≡◌ {A = Num} (Ok x) (Ok y) → x ≡ y
+read_of h = cc
 
-next_of : {v n v' n' : ℕ} → Value v n ≡ Value v' n' → n ≡ n'
-next_of h = cc
+value_of : {v n v' n' : ℕ} → ◌≡◌ {A = Num} (Ok (v, n)) (Ok (v', n')) → v ≡ v'
+value_of {v} {n} {v'} {n'} h = ap (λ (x : ℕ × ℕ). x.0) (read_of {x = (v, n)} {y = (v', n')} h)
+
+next_of : {v n v' n' : ℕ} → ◌≡◌ {A = Num} (Ok (v, n)) (Ok (v', n')) → n ≡ n'
+next_of {v} {n} {v'} {n'} h = ap (λ (x : ℕ × ℕ). x.1) (read_of {x = (v, n)} {y = (v', n')} h)
 
 one_le_pow : (k : ℕ) → 1 ≤ 128 ^ k
 one_le_pow zero = omega arith
@@ -164,9 +168,9 @@ module _ (sound : Sound) (s : List ℕ) (at b : ℕ) (i : at < length s) (q : ge
 -- what `groups` gives by its three tests
 by_tests : (k : ℕ) (s : List ℕ) (place at : ℕ) (l w h : Bool) → Num
 by_tests k s place at l w h =
-    cond l (Refused 2 (length s))
-    (cond w (Refused 3 place)
-    (cond h (Value (get_or s at 0) (at + 1))
+    cond l (refused EndsEarly (length s))
+    (cond w (refused NotShortest place)
+    (cond h (Ok (get_or s at 0, at + 1))
     (onto (get_or s at 0 - 128) 128 (groups k s place (at + 1)))))
 
 groups_by :
@@ -178,19 +182,19 @@ groups_by k s place at = refl
 
 module _ (sound : Sound) (s : List ℕ) (bytes : Bytes s) (place : ℕ) where
   Back : ℕ → Type 0
-  Back k = (at v next : ℕ) → groups (suc k) s place at ≡ Value v next → Written k s at v next
+  Back k = (at v next : ℕ) → groups (suc k) s place at ≡ Ok (v, next) → Written k s at v next
 
   back_onto :
       (k at v next : ℕ) (g : Num) → suc k < 10 → at < length s → 128 ≤ get_or s at 0 →
-      groups (suc k) s place (at + 1) ≡ g → onto (get_or s at 0 - 128) 128 g ≡ Value v next → Back k → Written (suc k) s at v next
+      groups (suc k) s place (at + 1) ≡ g → onto (get_or s at 0 - 128) 128 g ≡ Ok (v, next) → Back k → Written (suc k) s at v next
   unfolding onto Back
-  back_onto k at v next (Value v' n) m i h q e ih =
+  back_onto k at v next (Ok (v', n)) m i h q e ih =
       rw (← value_of e, ← next_of e) (back_more sound s at (get_or s at 0) i refl k v' n m h (bytes at) (ih (at + 1) v' n q))
-  back_onto k at v next (Refused x p) m i h q e ih = clash e
+  back_onto k at v next (Err x) m i h q e ih = clash e
 
   back_step :
       (k at v next : ℕ) (l w h : Bool) → k < 10 → leb (length s) at ≡ l → wrong_group (suc k) (get_or s at 0) ≡ w → ltb (get_or s at 0) 128 ≡ h →
-      by_tests k s place at l w h ≡ Value v next → ((j : ℕ) → suc j ≡ k → Back j) → Written k s at v next
+      by_tests k s place at l w h ≡ Ok (v, next) → ((j : ℕ) → suc j ≡ k → Back j) → Written k s at v next
   unfolding by_tests
   back_step k at v next true w h m p q r e ih = clash e
   back_step k at v next false true h m p q r e ih = clash e
@@ -215,7 +219,7 @@ pub record Found (s : List ℕ) (at v next : ℕ) : Type 0 where
   pub text : drop at s ≡ write_number v ++ drop next s
   pub long : next ≡ at + length (write_number v)
 
-pub number_back : Sound → (s : List ℕ) → Bytes s → (at v next : ℕ) → number_at s at ≡ Value v next → Found s at v next
+pub number_back : Sound → (s : List ℕ) → Bytes s → (at v next : ℕ) → number_at s at ≡ Ok (v, next) → Found s at v next
 unfolding number_at write_number Back
 number_back sound s b at v next e =
     let r = groups_back sound s b at 9 (omega arith) at v next e in
@@ -225,13 +229,13 @@ number_back sound s b at v next e =
 
 -- the place of a refusal, or the position after the number
 unfoldable pub number_place : Num → ℕ
-number_place (Value v next) = next
-number_place (Refused e p) = p
+number_place (Ok (v, next)) = next
+number_place (Err e) = e.place
 
 onto_place : (low scale : ℕ) (g : Num) → number_place (onto low scale g) ≡ number_place g
 unfolding onto number_place
-onto_place low scale (Value v next) = refl
-onto_place low scale (Refused e p) = refl
+onto_place low scale (Ok (v, next)) = refl
+onto_place low scale (Err e) = refl
 
 groups_within : (left : ℕ) (s : List ℕ) (place at : ℕ) → place ≤ length s → number_place (groups left s place at) ≤ length s
 unfolding groups number_place by_tests

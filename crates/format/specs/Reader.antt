@@ -1,11 +1,9 @@
 -- Readers and writers of values, and how they are put together. A refused position stays refused.
-use Rattle.std.specs.Prelude.{ℕ, zero, suc, Bool, cond, List, [], ◌∷◌, ◌++◌, eqb}
-use Rattle.std.proofs.Math.Option.{Option, none, some}
-use Rattle.format.specs.declared.Num.{Num}
-use Rattle.format.specs.declared.Num.TheVariants as num
-use Rattle.format.specs.declared.Pos.{Pos}
-use Rattle.format.specs.declared.Pos.TheVariants.{At, Refused}
+use Rattle.std.specs.Prelude.{ℕ, zero, suc, Bool, cond, List, [], ◌∷◌, ◌++◌, eqb, None, Option, Some, Err, Ok}
 use Rattle.format.specs.Number.{number_at, in_range, write_number}
+use Rattle.format.specs.Position.{Num, Pos, refused}
+use Rattle.format.specs.declared.Reason.TheVariants.{OutOfRange}
+use Rattle.format.specs.declared.Reason.{Reason}
 
 -- from the bytes and a position: a value and the position after it
 abbrev pub Reader : Type 0 → Type 0
@@ -16,23 +14,23 @@ Writer A = A → List ℕ
 
 -- the place of a position: it counts bytes from 0; of a refused one, the refusal's place
 unfoldable pub place_of : Pos → ℕ
-place_of (At i) = i
-place_of (Refused e p) = p
+place_of (Ok i) = i
+place_of (Err e) = e.place
 
 -- what is refused reads as 0
 unfoldable pub found : Num → ℕ × Pos
-found (num.Value v next) = (v, At next)
-found (num.Refused e p) = (0, Refused e p)
+found (Ok (v, next)) = (v, Ok next)
+found (Err e) = (0, Err e)
 
 -- any number
 unfoldable pub number : Reader ℕ
-number s (At i) = found (number_at s i)
-number s (Refused e p) = (0, Refused e p)
+number s (Ok i) = found (number_at s i)
+number s (Err e) = (0, Err e)
 
 -- a number from `low` to below `bound`; outside, the refusal `code` at `place`
-unfoldable pub ranged : ℕ → ℕ → ℕ → ℕ → Reader ℕ
-ranged low bound code place s (At i) = found (in_range low bound code place (number_at s i))
-ranged low bound code place s (Refused e p) = (0, Refused e p)
+unfoldable pub ranged : ℕ → ℕ → Reason → ℕ → Reader ℕ
+ranged low bound code place s (Ok i) = found (in_range low bound code place (number_at s i))
+ranged low bound code place s (Err e) = (0, Err e)
 
 -- what is refused at the place where it begins
 unfoldable pub here : {A : Type 0} → (ℕ → Reader A) → Reader A
@@ -41,13 +39,13 @@ here q s c = q (place_of c) s c
 -- 0 for none, or 1 and then the value, which is refused at the mark's place
 unfoldable pub optional : {A : Type 0} → (ℕ → Reader A) → Reader (Option A)
 optional q s c =
-    let mark = ranged 0 2 4 (place_of c) s c in
+    let mark = ranged 0 2 OutOfRange (place_of c) s c in
     let value = q (place_of c) s mark.1 in
-    cond (eqb mark.0 0) (none, mark.1) (some value.0, value.1)
+    cond (eqb mark.0 0) (None, mark.1) (Some value.0, value.1)
 
 unfoldable pub write_optional : {A : Type 0} → Writer A → Writer (Option A)
-write_optional w none = write_number 0
-write_optional w (some a) = write_number 1 ++ w a
+write_optional w None = write_number 0
+write_optional w (Some a) = write_number 1 ++ w a
 
 -- one, then another that may depend on it
 unfoldable pub both : {A B : Type 0} → Reader A → (A → Reader B) → Reader (A × B)
@@ -77,17 +75,17 @@ write_many w f x (a ∷ l) = w x a ++ write_many w f (f x a) l
 
 -- a value that is there only where b is true
 unfoldable pub given : {A : Type 0} → Bool → Reader A → Reader (Option A)
-given b r s c = let v = r s c in cond b (some v.0, v.1) (none, c)
+given b r s c = let v = r s c in cond b (Some v.0, v.1) (None, c)
 
 unfoldable pub write_given : {A : Type 0} → Writer A → Writer (Option A)
-write_given w none = []
-write_given w (some a) = w a
+write_given w None = []
+write_given w (Some a) = w a
 
 -- a value that was read, and whether it passes a test: where it fails, the refusal `code` at `place`, which reads as d
-unfoldable pub tested : {A : Type 0} → A → ℕ → ℕ → Bool → A × Pos → A × Pos
-tested d code place t (a, At i) = cond t (a, At i) (d, Refused code place)
-tested d code place t (a, Refused e p) = (a, Refused e p)
+unfoldable pub tested : {A : Type 0} → A → Reason → ℕ → Bool → A × Pos → A × Pos
+tested d code place t (a, Ok i) = cond t (a, Ok i) (d, refused code place)
+tested d code place t (a, Err e) = (a, Err e)
 
 -- the same, refused at the place where the value begins
-unfoldable pub passing : {A : Type 0} → A → (A → Bool) → ℕ → Reader A → Reader A
+unfoldable pub passing : {A : Type 0} → A → (A → Bool) → Reason → Reader A → Reader A
 passing d t code r s c = let a = r s c in tested d code (place_of c) (t a.0) a

@@ -1,15 +1,14 @@
 -- No reader goes on, or refuses, beyond the length.
 use Prim.Native.Nat.{ℕ, zero, suc, ◌≤◌}
 use Rattle.std.proofs.Common.{sym, subst}
-use Rattle.std.specs.Prelude.{◌≡◌, refl, Bool, true, false, cond, List, length, ltb, eqb}
-use Rattle.format.specs.declared.Num.{Num}
-use Rattle.format.specs.declared.Num.TheVariants as num
-use Rattle.format.specs.declared.Pos.{Pos}
-use Rattle.format.specs.declared.Pos.TheVariants.{At, Refused}
+use Rattle.std.specs.Prelude.{◌≡◌, refl, Bool, true, false, cond, List, length, ltb, eqb, Err, Ok}
 use Rattle.format.specs.Number.{number_at, in_range}
 use Rattle.format.specs.NumberLaws.{number_place, number_at_within}
 use Rattle.format.specs.Reader.{Reader, place_of, found, number, ranged, here, optional, both, mapped, many, given, tested, passing}
 use Rattle.format.specs.Sound.{Sound}
+use Rattle.format.specs.Position.{Num, Pos, refused}
+use Rattle.format.specs.declared.Reason.{Reason}
+use Rattle.format.specs.declared.Reason.TheVariants.{OutOfRange}
 
 -- from a place within the length, to one within the length
 pub record Within {A : Type 0} (r : Reader A) : Type 0 where
@@ -21,37 +20,37 @@ pub record WithinAt {A : Type 0} (q : ℕ → Reader A) : Type 0 where
 
 found_place : (m : Num) → place_of (found m).1 ≡ number_place m
 unfolding place_of found number_place
-found_place (num.Value v next) = refl
-found_place (num.Refused e p) = refl
+found_place (Ok (v, next)) = refl
+found_place (Err e) = refl
 
 number_place_lem : (s : List ℕ) (c : Pos) → place_of c ≤ length s → place_of (number s c).1 ≤ length s
 unfolding number place_of
-number_place_lem s (At i) h = rw (found_place (number_at s i)) (number_at_within s i h)
-number_place_lem s (Refused e p) h = h
+number_place_lem s (Ok i) h = rw (found_place (number_at s i)) (number_at_within s i h)
+number_place_lem s (Err e) h = h
 
 pub number_within : Within number
 number_within = record { place = number_place_lem }
 
-range_place : (low bound code at n : ℕ) (m : Num) → at ≤ n → number_place m ≤ n → number_place (in_range low bound code at m) ≤ n
+range_place : (low bound : ℕ) (code : Reason) (at n : ℕ) (m : Num) → at ≤ n → number_place m ≤ n → number_place (in_range low bound code at m) ≤ n
 unfolding in_range number_place
-range_place low bound code at n (num.Refused e p) l h = h
-range_place low bound code at n (num.Value v next) l h = go (ltb v low) (ltb v bound)
+range_place low bound code at n (Err e) l h = h
+range_place low bound code at n (Ok (v, next)) l h = go (ltb v low) (ltb v bound)
   where
-    go : (x y : Bool) → number_place (cond x (num.Refused code at) (cond y (num.Value v next) (num.Refused code at))) ≤ n
+    go : (x y : Bool) → number_place (cond x (refused code at) (cond y (Ok (v, next)) (refused code at))) ≤ n
     go true y = l
     go false true = h
     go false false = l
 
 ranged_place :
-    (low bound code at : ℕ) (s : List ℕ) (c : Pos) → at ≤ length s → place_of c ≤ length s →
+    (low bound : ℕ) (code : Reason) (at : ℕ) (s : List ℕ) (c : Pos) → at ≤ length s → place_of c ≤ length s →
     place_of (ranged low bound code at s c).1 ≤ length s
 unfolding ranged place_of
-ranged_place low bound code at s (At i) l h =
+ranged_place low bound code at s (Ok i) l h =
     let m = number_at s i in
     rw (found_place (in_range low bound code at m)) (range_place low bound code at (length s) m l (number_at_within s i h))
-ranged_place low bound code at s (Refused e p) l h = h
+ranged_place low bound code at s (Err e) l h = h
 
-pub ranged_within : (low bound code : ℕ) → WithinAt (ranged low bound code)
+pub ranged_within : (low bound : ℕ) (code : Reason) → WithinAt (ranged low bound code)
 ranged_within low bound code = record { place = ranged_place low bound code }
 
 either_place :
@@ -68,8 +67,8 @@ module _ {A : Type 0} {q : ℕ → Reader A} (Q : WithinAt q) where
   optional_place : (s : List ℕ) (c : Pos) → place_of c ≤ length s → place_of (optional q s c).1 ≤ length s
   unfolding optional
   optional_place s c h =
-      let m = ranged_place 0 2 4 (place_of c) s c h h in
-      either_place (eqb (ranged 0 2 4 (place_of c) s c).0 0) _ _ _ _ _ m (Q.place (place_of c) s (ranged 0 2 4 (place_of c) s c).1 h m)
+      let m = ranged_place 0 2 OutOfRange (place_of c) s c h h in
+      either_place (eqb (ranged 0 2 OutOfRange (place_of c) s c).0 0) _ _ _ _ _ m (Q.place (place_of c) s (ranged 0 2 OutOfRange (place_of c) s c).1 h m)
 
   pub optional_within : Within (optional q)
   optional_within = record { place = optional_place }
@@ -97,14 +96,14 @@ given_within R true = record { place = λ s c h. R.place s c h }
 given_within R false = record { place = λ s c h. h }
 
 tested_place :
-    Sound → {A : Type 0} (d : A) (code at n : ℕ) (t : Bool) (a : A) (c : Pos) → at ≤ n → place_of c ≤ n →
+    Sound → {A : Type 0} (d : A) (code : Reason) (at n : ℕ) (t : Bool) (a : A) (c : Pos) → at ≤ n → place_of c ≤ n →
     place_of (tested d code at t (a, c)).1 ≤ n
 unfolding tested place_of
-tested_place sound d code at n true a (At i) l h = h
-tested_place sound d code at n false a (At i) l h = l
-tested_place sound {A} d code at n t a (Refused e p) l h = subst (λ (v : A × Pos). place_of v.1 ≤ n) (sym (sound.refused d code at t a e p)) h
+tested_place sound d code at n true a (Ok i) l h = h
+tested_place sound d code at n false a (Ok i) l h = l
+tested_place sound {A} d code at n t a (Err e) l h = subst (λ (v : A × Pos). place_of v.1 ≤ n) (sym (sound.refused d code at t a e)) h
 
-pub passing_within : Sound → {A : Type 0} (d : A) (t : A → Bool) (code : ℕ) {r : Reader A} → Within r → Within (passing d t code r)
+pub passing_within : Sound → {A : Type 0} (d : A) (t : A → Bool) (code : Reason) {r : Reader A} → Within r → Within (passing d t code r)
 unfolding passing
 passing_within sound d t code {r} R =
     record { place = λ s c h. tested_place sound d code (place_of c) (length s) (t (r s c).0) (r s c).0 (r s c).1 h (R.place s c h) }

@@ -1,42 +1,69 @@
 // Types that the definitions of the book's format share with the code over it.
 #![tactic(auto)]
 
-// A reading position: where reading goes on, or the refusal, its number and its place. A refused position stays refused.
-#[derive(Clone, Copy)]
-pub enum Pos {
-    At(usize),
-    Refused(u64, usize),
+ghost use Rattle.std.specs.Prelude.{◌≡◌};
+ghost use Rattle.format.specs.Refusals.{reason_number};
+
+// Why a book or a call is refused, in the order of the table of refusals.
+#[derive(Clone, Copy, Debug, PartialEq, Eq)]
+pub enum Reason {
+    // The book is over 60,000 bytes.
+    BookTooLong,
+    // It ends where a byte is still due.
+    EndsEarly,
+    // A number is not in its shortest form, or is too large.
+    NotShortest,
+    // A value or an index is out of range.
+    OutOfRange,
+    // A count is.
+    CountOutOfRange,
+    // Dates do not rise, or a budget is named twice.
+    OutOfOrder,
+    // There are bytes after the last section.
+    BytesLeft,
+    // An asked activity is not in the book.
+    UnknownActivity,
+    // An asked date is outside D's range.
+    DateOutOfRange,
+    // A lent slice is too short for the rows.
+    TooShort,
+    // A twelve-month sum is outside 64 bits.
+    SumOutOfRange,
 }
 
-// One number: its value and the position after it, or the refusal, its number and its place.
-#[derive(Clone, Copy)]
-pub enum Num {
-    Value(u64, usize),
-    Refused(u64, usize),
+// Its number in the table.
+impl From<Reason> for u64 {
+    ghost from_gives = { λ reason number. number ≡ reason_number reason };
+
+    fn from(reason: Reason) -> u64 {
+        match reason {
+            Reason::BookTooLong => 1,
+            Reason::EndsEarly => 2,
+            Reason::NotShortest => 3,
+            Reason::OutOfRange => 4,
+            Reason::CountOutOfRange => 5,
+            Reason::OutOfOrder => 6,
+            Reason::BytesLeft => 7,
+            Reason::UnknownActivity => 8,
+            Reason::DateOutOfRange => 9,
+            Reason::TooShort => 10,
+            Reason::SumOutOfRange => 11,
+        }
+    }
 }
 
-// The refusals of a book: it is over 60,000 bytes; it ends where a byte is still due; a number is not in its shortest form, or is too large;
-// a value or an index is out of range; a count is; dates do not rise, or a budget is named twice; there are bytes after the last section.
-pub const BOOK_TOO_LONG: u64 = 1;
-
-pub const ENDS_EARLY: u64 = 2;
-
-pub const NOT_SHORTEST: u64 = 3;
-
-pub const OUT_OF_RANGE: u64 = 4;
-
-pub const COUNT_OUT_OF_RANGE: u64 = 5;
-
-pub const OUT_OF_ORDER: u64 = 6;
-
-pub const BYTES_LEFT: u64 = 7;
-
-// What is answered to a book: accepted, or the refusal, its number and its place.
-#[derive(Clone, Copy)]
-pub enum Answer {
-    Accepted,
-    Refused(u64, usize),
+// A refusal: why, and at which place.
+#[derive(Clone, Copy, Debug, PartialEq, Eq)]
+pub struct Refusal {
+    pub reason: Reason,
+    pub place: usize,
 }
+
+// A reading position: where reading goes on, or the refusal. A refused position stays refused.
+pub type Pos = Result<usize, Refusal>;
+
+// One number: its value and the place after it, or the refusal.
+pub type Num = Result<(u64, usize), Refusal>;
 
 // Where an activity stands.
 #[derive(Clone, Copy)]

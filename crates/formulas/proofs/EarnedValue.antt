@@ -1,8 +1,7 @@
 -- Earned value, against EV = BAC * a / b where a of b is done: by a percent p of 10,000, by units, by minutes. Assumes nothing.
-use Rattle.std.specs.Prelude.{unwrap_or}
+use Rattle.std.specs.Prelude.{unwrap_or, Some}
 use mathlib.Core.Path.{◌≡◌, refl, sym, ap, ap₂, ◌∙◌, subst}
 use mathlib.Core.Bool.{false}
-use mathlib.Core.Option.{some}
 use Prim.Native.Nat.{ℕ, suc, ◌+◌, ◌-◌, ◌*◌, ◌^◌, ◌≤◌, ◌<◌, zero-le}
 use native.Mathlib.Nat.{le_refl, le_trans, le_of_eq, one-mul, mul_comm, mul-pos, mul-le-mul}
 use native.Mathlib.Omega.{arith}
@@ -53,32 +52,32 @@ percent_is p = ap (λ (y : Float). clamp01_of (div binary64 (nearest_of (pos p))
     ten_thousand_lem : ten_thousand ≡ nearest_of (pos 10000)
     ten_thousand_lem = unfold of_int in refl
 
-module _ (a b : ℕ) (part : a ≤ b) (some : 0 < b) (small : b ≤ 2 ^ 53) where
+module _ (a b : ℕ) (part : a ≤ b) (positive : 0 < b) (small : b ≤ 2 ^ 53) where
   rounded : Within (2 ^ 53 - 1) (round binary64 false a b) false a b
-  rounded = round_within false a b some (larger (lit≤ {m = 2 ^ 53} {n = 2 ^ 500} tt) (moderate (2 ^ 53) a b (le_trans part small) small some))
+  rounded = round_within false a b positive (larger (lit≤ {m = 2 ^ 53} {n = 2 ^ 500} tt) (moderate (2 ^ 53) a b (le_trans part small) small positive))
 
   at_most_all : T (le (round binary64 false a b) one)
-  at_most_all = subst (λ (z : Float). T (le (round binary64 false a b) z)) one_is (round_mono binary64 a b 1 1 some (lit< tt) (omega arith))
+  at_most_all = subst (λ (z : Float). T (le (round binary64 false a b) z)) one_is (round_mono binary64 a b 1 1 positive (lit< tt) (omega arith))
 
   -- the share is the float nearest to a / b
   pub share_is : share a b ≡ round binary64 false a b
   share_is =
-      ap clamp01_of (small_ratio (pos a) (pos b) (not_zero (pos b) some) (le_trans part small) small)
+      ap clamp01_of (small_ratio (pos a) (pos b) (not_zero (pos b) positive) (le_trans part small) small)
       ∙ clamp_stays (round binary64 false a b) rounded.number rounded.sign at_most_all
 
   share_within : Within (2 ^ 53 - 1) (share a b) false a b
   share_within = rw share_is rounded
 
 -- ---- the laws, where a of b is done
-module _ (budget : ℤ) (a b : ℕ) (part : a ≤ b) (some : 0 < b) (small : b ≤ 2 ^ 53) where
+module _ (budget : ℤ) (a b : ℕ) (part : a ≤ b) (positive : 0 < b) (small : b ≤ 2 ^ 53) where
   by_share : (d k r : ℕ) → OneMore d (2 ^ 53 - 1) k → k + r ≡ 2 ^ 53 → nat_abs budget ≤ 2 ^ 63 → Within d (nearest_of budget) (negative budget) (nat_abs budget) 1
       → UpToLimit (EV budget a b) → HalfAnd r k (earned_of budget (share a b)) (EV budget a b)
   by_share d k r more sum size w h =
       whole_half _ (unlike (negative budget) false) (nat_abs budget * a) (1 * b) k r sum h
-      (mul_within (nearest_of budget) (share a b) (negative budget) false (nat_abs budget) 1 a b d (2 ^ 53 - 1) k (lit< tt) some more
+      (mul_within (nearest_of budget) (share a b) (negative budget) false (nat_abs budget) 1 a b d (2 ^ 53 - 1) k (lit< tt) positive more
       (larger (lit≤ {m = 2 ^ 63 * 2 ^ 53} {n = 2 ^ 499} tt)
-      (moderate (2 ^ 63 * 2 ^ 53) (nat_abs budget * a) (1 * b) (mul-le-mul size (le_trans part small)) (mul-le-mul (lit≤ {m = 1} {n = 2 ^ 63} tt) small) (mul-pos (lit< {m = 0} {n = 1} tt) some)))
-      w (share_within a b part some small))
+      (moderate (2 ^ 63 * 2 ^ 53) (nat_abs budget * a) (1 * b) (mul-le-mul size (le_trans part small)) (mul-le-mul (lit≤ {m = 1} {n = 2 ^ 63} tt) small) (mul-pos (lit< {m = 0} {n = 1} tt) positive)))
+      w (share_within a b part positive small))
 
   -- a budget up to 2 ^ 53, two roundings: |EV − exact| ≤ 1 / 2 + |exact| * 2 / (2 ^ 53 − 2)
   pub earned_half : Small budget → UpToLimit (EV budget a b) → HalfAnd 2 (2 ^ 53 - 2) (earned_of budget (share a b)) (EV budget a b)
@@ -129,7 +128,7 @@ earned_of_all budget b B small h =
 
 -- ---- in a book, of work under way
 module _ (book : Book) (i : ℕ) (started : (activity_at book i).status ≡ InProgress) where
-  pub by_judged_percent : (p : ℕ) → book.technique ≡ Physical → (activity_at book i).percent ≡ some (pos p) → performance book i ≡ share p 10000
+  pub by_judged_percent : (p : ℕ) → book.technique ≡ Physical → (activity_at book i).percent ≡ Some (pos p) → performance book i ≡ share p 10000
   unfolding performance
   by_judged_percent p t q = rw (t, started, q) (percent_is p)
 

@@ -1,10 +1,10 @@
 -- The distribution: what each account is handed from those right under it.
+use Rattle.std.specs.Prelude.{None, Some}
 use Prim.Native.Nat.{ℕ, zero, suc, ◌+◌, ◌*◌, ◌≤◌, ◌<◌}
 use native.Mathlib.Omega.{arith}
 use mathlib.Core.Path.{◌≡◌, refl, sym, ap, ap₂, ◌∙◌}
 use mathlib.Core.Bool.{Bool, true, false}
 use mathlib.Core.List.{List, [], ◌∷◌, map, foldl, Memᴰ}
-use mathlib.Core.Option.{none, some}
 use lib.Dec.{eqb}
 use lib.IntN.{ℤ, pos}
 use lib.ListN.{length, get_or, length-map}
@@ -42,12 +42,12 @@ module _ {book : Book} {numbers : List ℕ} (w : AreParents book numbers) where
   number_at i h =
       ap (λ (ns : List ℕ). get_or ns i 0) w.above
       ∙ at_map (λ (a : Activity). mark_of a.parent) book.activities i no_activity 0 h
-      ∙ ap mark_of (sym (at_map parent_in book.activities i no_activity none h))
+      ∙ ap mark_of (sym (at_map parent_in book.activities i no_activity None h))
 
   parent_small : (i : ℕ) → i < length book.activities → Small (parent_of (parents book) i)
   unfolding parents
   parent_small i h =
-      rw (at_map parent_in book.activities i no_activity none h) (small_given (length book.activities) (get_or book.activities i no_activity).parent w.most (w.inside i no_activity h))
+      rw (at_map parent_in book.activities i no_activity None h) (small_given (length book.activities) (get_or book.activities i no_activity).parent w.most (w.inside i no_activity h))
 
   pub number_below : (i : ℕ) → i < length numbers → get_or numbers i 0 < 501
   number_below i h = let k : i < length book.activities = omega (arith, above_length) in omega (arith, place_below (parent_of (parents book) i) (number_at i k))
@@ -63,7 +63,7 @@ module _ {book : Book} {numbers : List ℕ} (w : AreParents book numbers) where
   abbrev given : ℕ → ℤ
   given i = current_in (booked book) i
 
-  given_is : (i : ℕ) → i < 500 → given i ≡ current_of book (some i)
+  given_is : (i : ℕ) → i < 500 → given i ≡ current_of book (Some i)
   unfolding current_of account_row
   given_is i h =
       ap₂ saturating_add (account_figure_lem (λ (o : Account). pos 0) book i 0 (omega arith) (omega arith)) (account_figure_lem (λ (o : Account). pos 0) book i 3 (omega arith) (omega arith))
@@ -85,7 +85,7 @@ module _ {book : Book} {numbers : List ℕ} (w : AreParents book numbers) where
       added_at place given (k * 6 + 5) under (booked book) (line_accounts book) (omega (arith, accounts_length (λ (o : Account). pos 0) book)) (hits k h)
       ∙ ap (λ (z : ℤ). saturated w64 z (map given (keep under (line_accounts book)))) (account_figure_lem (λ (o : Account). pos 0) book k 5 h (omega arith))
       ∙ ap (saturated w64 (pos 0))
-      (map_same given (λ (i : ℕ). current_of book (some i)) (keep under (line_accounts book))
+      (map_same given (λ (i : ℕ). current_of book (Some i)) (keep under (line_accounts book))
       (λ i q. let l = in_lines i (keep_in under i (line_accounts book) q).0 in given_is i (omega (arith, w.most))))
 
   -- the other figures stay
@@ -140,9 +140,9 @@ all_done {book} {numbers} leaves {marks} {marks'} w l b m t =
 pub none_handed : (book : Book) → length book.activities ≡ 0 → booked book ≡ accounts book
 unfolding line_accounts parents span keep
 none_handed book e =
-    let none : book.activities ≡ [] = nothing book.activities e in
-    let w : AreParents book [] = record { most = omega arith; above = sym (ap (map (λ (a : Activity). mark_of a.parent)) none); inside = λ i d l. absurd (omega arith) } in
-    sym (ap (λ (xs : List Activity). foldl (given_up [] (booked book)) (booked book) (keep (has_line book) (span 0 (length (map parent_in xs))))) none) ∙ handed_down w
+    let empty : book.activities ≡ [] = nothing book.activities e in
+    let w : AreParents book [] = record { most = omega arith; above = sym (ap (map (λ (a : Activity). mark_of a.parent)) empty); inside = λ i d l. absurd (omega arith) } in
+    sym (ap (λ (xs : List Activity). foldl (given_up [] (booked book)) (booked book) (keep (has_line book) (span 0 (length (map parent_in xs))))) empty) ∙ handed_down w
   where
     nothing : (xs : List Activity) → length xs ≡ 0 → xs ≡ []
     nothing [] e = refl

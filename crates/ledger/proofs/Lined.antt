@@ -1,9 +1,9 @@
 -- The lines that the table of accounts makes are the book's.
+use Rattle.std.specs.Prelude.{None, Some}
 use Prim.Native.Nat.{ℕ, zero, suc, ◌+◌, ◌*◌, ◌≤◌, ◌<◌}
 use native.Mathlib.Omega.{arith}
 use mathlib.Core.Path.{◌≡◌, refl, ap, ap₂, ◌∙◌}
 use mathlib.Core.List.{List, ◌∷◌, ◌++◌, map, Memᴰ}
-use mathlib.Core.Option.{none, some}
 use lib.IntN.{ℤ, pos}
 use lib.ListN.{length, get_or, length-append}
 use Rattle.format.specs.Book.{Book}
@@ -35,12 +35,12 @@ row_long l = behind l.activity _
 steps_most : (ps : Parents) (limit : ℕ) (to : Account) → length (steps ps limit to) ≤ limit
 unfolding steps
 steps_most ps zero to = omega arith
-steps_most ps (suc limit) none = omega arith
-steps_most ps (suc limit) (some p) = omega (arith, steps_most ps limit (get_or ps p none))
+steps_most ps (suc limit) None = omega arith
+steps_most ps (suc limit) (Some p) = omega (arith, steps_most ps limit (get_or ps p None))
 
 pub made_most : (ps : Parents) (limit i : ℕ) → steps_made ps limit i ≤ limit
 unfolding steps_made walk
-made_most ps limit i = steps_most ps limit (get_or ps i none)
+made_most ps limit i = steps_most ps limit (get_or ps i None)
 
 module _ (book : Book) where
   below : (i : ℕ) → Memᴰ i (line_accounts book) → i < length (parents book)
@@ -64,10 +64,10 @@ module _ (book : Book) where
   lines_are numbers marks costs {table} {whole} n l e m s p t =
       let ps = parents book in
       ap (λ (t : List ℤ). lines_in t numbers costs marks whole) t
-      ∙ ap₂ ◌∷◌ (line_is none tt 0 whole ∙ ap (line_for book none 0) p)
+      ∙ ap₂ ◌∷◌ (line_is None tt 0 whole ∙ ap (line_for book None 0) p)
       (ap (map (activity_line (accounts book) numbers costs)) (marked_accounts book marks (length numbers) n m)
-      ∙ map_same (activity_line (accounts book) numbers costs) (λ (i : ℕ). line_for book (some i) (depth_of book i) (cost_of book i).budget) (line_accounts book)
+      ∙ map_same (activity_line (accounts book) numbers costs) (λ (i : ℕ). line_for book (Some i) (depth_of book i) (cost_of book i).budget) (line_accounts book)
       (λ i q.
       let h = below i q in
-      line_is (some i) (omega arith) (1 + steps_made (parents_of numbers) (length numbers) i) (figure_of costs (i * 3))
-      ∙ ap₂ (line_for book (some i)) (ap₂ (λ (t : Parents) (k : ℕ). 1 + steps_made t k i) e n) (s i h)))
+      line_is (Some i) (omega arith) (1 + steps_made (parents_of numbers) (length numbers) i) (figure_of costs (i * 3))
+      ∙ ap₂ (line_for book (Some i)) (ap₂ (λ (t : Parents) (k : ℕ). 1 + steps_made t k i) e n) (s i h)))

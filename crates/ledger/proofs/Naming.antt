@@ -1,22 +1,21 @@
 -- A loop over the budgets: those before are read, and what they name is marked.
+use Rattle.std.specs.Prelude.{Option}
 use Prim.Native.Nat.{ℕ, ◌+◌, ◌<◌, ◌≤◌}
 use mathlib.Core.Path.{◌≡◌, sym, ap, subst}
 use mathlib.Core.List.{List, [], ◌∷◌}
-use mathlib.Core.Option.{Option}
 use lib.ListN.{drop, set, replicate}
-use Rattle.format.specs.declared.Pos.{Pos}
 use Rattle.format.specs.Book as book
 use Rattle.format.specs.Field.{index}
 use Rattle.format.specs.Codec.{O}
 use Rattle.format.specs.Format.{budget}
 use Rattle.format.specs.Verdict.{content}
-use Rattle.fields.specs.Optional.{number_option}
 use Rattle.sections.specs.declared.Section.{Section}
 use Rattle.sections.specs.declared.budgets.Budget.{Budget}
 use Rattle.sections.specs.Sections.{budget_of, mark_of}
 use Rattle.sections.proofs.Marks.{Small, Marked, none_marked, one_marked, index_small, budget_small}
 use Rattle.ledger.specs.Arguments.{IsBudgets, IsBudgetAt}
 use Rattle.ledger.proofs.Reading.{Reading, reading_none, reading_more, reading_next, reading_end}
+use Rattle.format.specs.Position.{Pos}
 
 abbrev naming : List (Option ℕ) → book.Budget → List (Option ℕ)
 naming before b = b.activity ∷ before
@@ -46,15 +45,15 @@ module _ {s : List ℕ} {n count i : ℕ} {marks : List ℕ} {q : Pos} (w : Nami
     pub naming_next : drop i (content s).budgets ≡ budget_of s b ∷ drop (i + 1) (content s).budgets
     naming_next = reading_next w.reading h here
 
-    small : Small (number_option b.activity)
+    small : Small b.activity
     unfolding budget_of
     small = subst Small (sym (ap (λ v. v.0.activity) here)) (budget_small n w.before s q most)
 
-    pub naming_more : {marks' : List ℕ} → marks' ≡ set marks (mark_of (number_option b.activity)) 1 → Naming s n count (i + 1) marks' b.next
+    pub naming_more : {marks' : List ℕ} → marks' ≡ set marks (mark_of b.activity) 1 → Naming s n count (i + 1) marks' b.next
     unfolding budget_of
     naming_more e =
         record {
-          before = number_option b.activity ∷ w.before;
+          before = b.activity ∷ w.before;
           reading = reading_more w.reading h here;
-          marked = subst (λ (m : List ℕ). Marked m (number_option b.activity ∷ w.before)) (sym e) (one_marked w.marked (number_option b.activity) small);
+          marked = subst (λ (m : List ℕ). Marked m (b.activity ∷ w.before)) (sym e) (one_marked w.marked b.activity small);
         }

@@ -1,10 +1,10 @@
 -- The table of accounts: whose each row is, and what makes a table this one.
+use Rattle.std.specs.Prelude.{None, Some}
 use Prim.Native.Nat.{ℕ, ◌≤◌, ◌<◌, min}
 use native.Mathlib.Omega.{arith}
 use mathlib.Core.Path.{◌≡◌, refl, sym, ap, ◌∙◌}
 use mathlib.Core.Bool.{Bool, true, false, true≢false, cond}
 use mathlib.Core.List.{List}
-use mathlib.Core.Option.{none, some}
 use lib.Dec.{eqb, ltb}
 use lib.IntN.{ℤ, pos}
 use lib.ListN.{length, get_or}
@@ -22,33 +22,33 @@ use Rattle.ledger.specs.Accounts.{account_at, account_row, accounts_with, accoun
 
 -- what an accepted book names has a place of its own
 pub small_given : (n : ℕ) (o : Account) → n ≤ 500 → Given (λ (i : ℕ). i < n) o → Small o
-small_given n none l h = tt
-small_given n (some i) l h = omega arith
+small_given n None l h = tt
+small_given n (Some i) l h = omega arith
 
 pub account_is : (a o : Account) → names a o ≡ true → a ≡ o
 unfolding names
-account_is none none e = refl
-account_is none (some j) e = absurd (true≢false (sym e))
-account_is (some i) none e = absurd (true≢false (sym e))
-account_is (some i) (some j) e = ap some (eqb-true i j e)
+account_is None None e = refl
+account_is None (Some j) e = absurd (true≢false (sym e))
+account_is (Some i) None e = absurd (true≢false (sym e))
+account_is (Some i) (Some j) e = ap Some (eqb-true i j e)
 
 pub same_place : (o : Account) → Small o → (k : ℕ) → k < 501 → eqb (mark_of o) k ≡ names o (account_at k)
 unfolding mark_of names
 same_place o h k l = go o h (ltb k 500) refl
   where
-    go : (o : Account) → Small o → (b : Bool) → ltb k 500 ≡ b → eqb (mark_of o) k ≡ names o (cond b (some k) none)
-    go none h true e = ne_eqb 500 k (λ q. omega (arith, ltb-true k 500 e))
-    go none h false e = eq-eqb 500 k (omega (arith, ltb-false k 500 e))
-    go (some v) h true e = let z : min v 500 ≡ v = omega arith in ap (λ (m : ℕ). eqb m k) z
-    go (some v) h false e = ne_eqb (min v 500) k (λ q. omega (arith, ltb-false k 500 e))
+    go : (o : Account) → Small o → (b : Bool) → ltb k 500 ≡ b → eqb (mark_of o) k ≡ names o (cond b (Some k) None)
+    go None h true e = ne_eqb 500 k (λ q. omega (arith, ltb-true k 500 e))
+    go None h false e = eq-eqb 500 k (omega (arith, ltb-false k 500 e))
+    go (Some v) h true e = let z : min v 500 ≡ v = omega arith in ap (λ (m : ℕ). eqb m k) z
+    go (Some v) h false e = ne_eqb (min v 500) k (λ q. omega (arith, ltb-false k 500 e))
 
-pub activity_at_lem : (i : ℕ) → i < 500 → account_at i ≡ some i
-activity_at_lem i h = ap (λ (b : Bool). cond b (some i) none) (lt-ltb i 500 h)
+pub activity_at_lem : (i : ℕ) → i < 500 → account_at i ≡ Some i
+activity_at_lem i h = ap (λ (b : Bool). cond b (Some i) None) (lt-ltb i 500 h)
 
 pub account_back : (o : Account) → Small o → account_at (mark_of o) ≡ o
 unfolding mark_of
-account_back none h = refl
-account_back (some v) h = let z : min v 500 ≡ v = omega arith in ap account_at z ∙ activity_at_lem v h
+account_back None h = refl
+account_back (Some v) h = let z : min v 500 ≡ v = omega arith in ap account_at z ∙ activity_at_lem v h
 
 -- ---- the table
 

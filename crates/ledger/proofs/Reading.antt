@@ -6,11 +6,11 @@ use mathlib.Core.Path.{◌≡◌, refl, sym, ap, ◌∙◌}
 use mathlib.Core.List.{List, [], ◌∷◌, foldl}
 use lib.ListN.{drop}
 use lib.Seq.{drop-drop}
-use Rattle.format.specs.declared.Pos.{Pos}
 use Rattle.format.specs.Reader.{many}
 use Rattle.format.specs.Codec.{Codec, times}
 use Rattle.sections.specs.declared.Section.{Section}
 use Rattle.sections.specs.Sections.{elements}
+use Rattle.format.specs.Position.{Pos}
 
 module _ {X A : Type 0} (c : X → Codec A) (f : X → A → X) (s : List ℕ) (all : List A) where
   -- i of the n elements are read: they leave the state y, and the next begins at q

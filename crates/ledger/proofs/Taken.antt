@@ -1,11 +1,11 @@
 -- What the budgets and the log make of an empty table: the figures that are booked.
+use Rattle.std.specs.Prelude.{None}
 use Prim.Native.Nat.{ℕ, zero, suc, ◌+◌, ◌*◌, ◌≤◌, ◌<◌}
 use native.Mathlib.Omega.{arith}
 use mathlib.Core.Path.{◌≡◌, refl, sym, ap, ◌∙◌}
 use mathlib.Core.Logic.{◌⊎◌, inl, inr}
 use mathlib.Core.Bool.{Bool, true, false, ◌&&◌, cond}
 use mathlib.Core.List.{List, [], ◌∷◌, map, foldl, Memᴰ}
-use mathlib.Core.Option.{none}
 use lib.Dec.{eqb}
 use lib.IntN.{ℤ, pos}
 use lib.ListN.{length, get_or, set, replicate, length-map, length-set, length-replicate, get_or-replicate}
@@ -36,7 +36,7 @@ abbrev held_by : Account → Budget → Bool
 held_by o b = names b.activity o
 
 others : (b : Budget) (bs : List Budget) → NoTwoAlike (map name_of (b ∷ bs)) → Every (λ (x : Budget). name_of b ≡ name_of x → ⊥) bs
-others b bs h k d l e = h 0 (suc k) (omega arith) (omega (arith, length-map bs name_of)) (e ∙ sym (at_map name_of bs k d none l))
+others b bs h k d l e = h 0 (suc k) (omega arith) (omega (arith, length-map bs name_of)) (e ∙ sym (at_map name_of bs k d None l))
 
 alone : (o : Account) (bs : List Budget) → NoTwoAlike (map name_of bs) → length (keep (held_by o) bs) ≤ 1
 unfolding keep

@@ -1,7 +1,6 @@
 -- The table of accounts: six figures for each, an activity at its index, the project at 500, behind all of them; and marks, 0 for none.
-use Rattle.std.specs.Prelude.{ℕ, ◌+◌, ◌*◌, ◌<◌, ◌≡◌, Bool, not, cond, ltb, ℤ, pos, length, get_or, set}
+use Rattle.std.specs.Prelude.{ℕ, ◌+◌, ◌*◌, ◌<◌, ◌≡◌, Bool, not, cond, ltb, ℤ, pos, length, get_or, set, None, Some}
 use mathlib.Core.List.{List, [], ◌∷◌, flat_map}
-use Rattle.std.proofs.Math.Option.{none, some}
 use Rattle.std.specs.Int.{w64}
 use Rattle.integer.specs.Folds.{saturated}
 use Rattle.format.specs.declared.ChangeStatus.TheVariants.{Pending, Approved, NotApproved}
@@ -17,7 +16,7 @@ use Rattle.tree.specs.Figures.{figure_of, saturating_add, add_at, is_unmarked}
 
 -- whose row number k is
 abbrev pub account_at : ℕ → Account
-account_at k = cond (ltb k 500) (some k) none
+account_at k = cond (ltb k 500) (Some k) None
 
 -- what was first approved, the plan added up, the changes by status in the order of the statuses' numbers, and what is distributed
 unfoldable pub account_row : (Account → ℤ) → Book → Account → List ℤ

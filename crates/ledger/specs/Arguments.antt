@@ -1,7 +1,5 @@
 -- What the functions ask of their arguments.
-use Rattle.std.specs.Prelude.{ℕ, ◌≤◌, ◌<◌, ◌≡◌, List, map, ℤ, length}
-use Rattle.std.proofs.Math.Option.{Option}
-use Rattle.format.specs.declared.Pos.{Pos}
+use Rattle.std.specs.Prelude.{ℕ, ◌≤◌, ◌<◌, ◌≡◌, List, map, ℤ, length, Option}
 use Rattle.format.specs.Inverse.{Given}
 use Rattle.format.specs.Book as book
 use Rattle.format.specs.InRange.{Every, NoTwoAlike, BudgetInRange, BudgetChangeInRange}
@@ -15,6 +13,7 @@ use Rattle.sections.specs.Sections.{alike_in, budget_of, mark_of}
 use Rattle.book.specs.Plan.{budgets_in}
 use Rattle.tree.specs.Figures.{is_unmarked}
 use Rattle.ledger.specs.Accounts.{booked, accounts, MarksNamed, MarksLines}
+use Rattle.format.specs.Position.{Pos}
 
 -- the budgets of an accepted book with so many activities
 pub record IsBudgets (s : List ℕ) (list : Section) (activities : ℕ) : Type 0 where

@@ -1,7 +1,5 @@
 -- The lines as the code has them, from the table of accounts.
-use Rattle.std.specs.Prelude.{ℕ, ◌+◌, ◌*◌, List, ◌∷◌, map, ℤ, length}
-use Rattle.std.proofs.Math.Option.{none, some}
-use Rattle.fields.specs.Optional.{number_option}
+use Rattle.std.specs.Prelude.{ℕ, ◌+◌, ◌*◌, List, ◌∷◌, map, ℤ, length, None, Some}
 use Rattle.sections.specs.Sections.{mark_of}
 use Rattle.model.specs.Tree.{steps_made}
 use Rattle.model.specs.Budgets.{Account, BudgetLine}
@@ -12,7 +10,7 @@ use Rattle.ledger.specs.Accounts.{account_figure, current_in, marked_of}
 unfoldable pub line_of : Line → BudgetLine
 line_of l =
     record {
-      activity = number_option l.activity;
+      activity = l.activity;
       depth = l.depth;
       original = l.original;
       current = l.current;
@@ -38,8 +36,8 @@ line_in table account depth scheduled =
 
 -- that of an activity, whose costs are three figures: the first is the planned one
 unfoldable pub activity_line : List ℤ → List ℕ → List ℤ → ℕ → BudgetLine
-activity_line table parents costs i = line_in table (some i) (1 + steps_made (parents_of parents) (length parents) i) (figure_of costs (i * 3))
+activity_line table parents costs i = line_in table (Some i) (1 + steps_made (parents_of parents) (length parents) i) (figure_of costs (i * 3))
 
 -- the project's, then those of the marked activities
 unfoldable pub lines_in : List ℤ → List ℕ → List ℤ → List ℕ → ℤ → List BudgetLine
-lines_in table parents costs marks whole = line_in table none 0 whole ∷ map (activity_line table parents costs) (marked_of marks (length parents))
+lines_in table parents costs marks whole = line_in table None 0 whole ∷ map (activity_line table parents costs) (marked_of marks (length parents))

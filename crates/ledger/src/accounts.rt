@@ -1,11 +1,9 @@
 // The table of accounts: six figures for each, an activity at its index, the project at 500, behind all of them.
 ghost use Rattle.std.specs.Prelude.{◌≡◌, ◌+◌, ◌*◌, ◌<◌};
-ghost use Rattle.fields.specs.Optional.{number_option};
 ghost use Rattle.sections.specs.Sections.{mark_of};
 ghost use Rattle.tree.specs.Figures.{add_at};
 ghost use Rattle.ledger.specs.Accounts.{account_figure, current_in};
 
-use fields::OptionalNumber;
 use money::sums::saturating_add;
 use sections::budgets::mark_of;
 
@@ -23,8 +21,8 @@ pub const NOT_APPROVED: usize = 4;
 pub const DISTRIBUTED: usize = 5;
 
 // The number of an account's row.
-pub fn account_number(account: OptionalNumber) -> usize
-    ensures { (result ≡ mark_of (number_option account)) × (result < 501) }
+pub fn account_number(account: Option<u64>) -> usize
+    ensures { (result ≡ mark_of account) × (result < 501) }
 {
     mark_of(account)
 }

@@ -1,15 +1,12 @@
 // The lines, from the table of accounts, and their rows.
 ghost use Rattle.std.specs.Prelude.{◌≡◌, ◌+◌, ◌*◌, ◌≤◌, ◌<◌, length};
 ghost use mathlib.Core.List.{flat_map};
-ghost use Rattle.std.proofs.Math.Option.{none};
 ghost use Rattle.std.proofs.lemmas.List.Edits.{sets};
-ghost use Rattle.fields.specs.Optional.{number_option};
 ghost use Rattle.rows.specs.Rows.{optional};
 ghost use Rattle.answers.specs.Rows.{budget_row};
 ghost use Rattle.ledger.specs.Lines.{line_of, line_in, activity_line, lines_in};
 
 use crate::accounts::{DISTRIBUTED, ORIGINAL, PENDING, PLANNED, account_number, current, figure};
-use fields::OptionalNumber;
 use money::sums::saturating_add;
 use money::words::to_bits;
 use rows::put_row;
@@ -19,7 +16,7 @@ use tree::walk_up;
 // A budget line. The depth has the steps that the walk from the activity made.
 #[derive(Clone, Copy)]
 pub struct Line {
-    pub activity: OptionalNumber,
+    pub activity: Option<u64>,
     pub depth: u64,
     pub original: i64,
     pub current: i64,
@@ -30,8 +27,8 @@ pub struct Line {
 }
 
 // The line of an account.
-fn line_at(activity: OptionalNumber, depth: u64, scheduled: i64, accounts: &[i64; 3006]) -> Line
-    ensures { line_of result ≡ line_in accounts.now (number_option activity) depth scheduled }
+fn line_at(activity: Option<u64>, depth: u64, scheduled: i64, accounts: &[i64; 3006]) -> Line
+    ensures { line_of result ≡ line_in accounts.now activity depth scheduled }
 {
     let k = account_number(activity);
     let current = current(accounts, k);
@@ -55,21 +52,16 @@ fn line_of(i: usize, parents: &[u64], costs: &[i64], accounts: &[i64; 3006]) -> 
 {
     let steps = walk_up(parents, i, parents.len() as u64);
     let scheduled = costs[i * COST_WIDTH];
-    line_at(
-        OptionalNumber::Present(i as u64),
-        1 + steps,
-        scheduled,
-        accounts,
-    )
+    line_at(Some(i as u64), 1 + steps, scheduled, accounts)
 }
 
 // A number that may be absent: 0 and 0, or 1 and it.
-fn optional_pair(number: OptionalNumber) -> [u64; 2]
-    ensures { result ≡ optional (number_option number) }
+fn optional_pair(number: Option<u64>) -> [u64; 2]
+    ensures { result ≡ optional number }
 {
     match number {
-        OptionalNumber::Absent => [0, 0],
-        OptionalNumber::Present(n) => [1, n],
+        None => [0, 0],
+        Some(n) => [1, n],
     }
 }
 
@@ -105,9 +97,9 @@ fn put_line(line: Line, at: usize, out: &mut [u64])
 // The project's line, before all others. `whole`: what is scheduled of the project.
 pub fn put_project(whole: i64, accounts: &[i64; 3006], out: &mut [u64])
     requires { 10 ≤ length out.old }
-    ensures { out.new ≡ sets out.old 0 (budget_row (line_in accounts.now none 0 whole)) }
+    ensures { out.new ≡ sets out.old 0 (budget_row (line_in accounts.now None 0 whole)) }
 {
-    let line = line_at(OptionalNumber::Absent, 0, whole, accounts);
+    let line = line_at(None, 0, whole, accounts);
     put_line(line, 0, out);
 }
 

@@ -2,3 +2,4 @@ pub mod Lists
 pub mod Distinct
 pub mod Spans
 pub mod Search
+pub mod Options

@@ -1,7 +1,7 @@
 -- Small cases of forecasts, variances, budgets and periods, by computation.
+use Rattle.std.specs.Prelude.{None, Option, Some}
 use mathlib.Core.Path.{◌≡◌, refl}
 use mathlib.Core.List.{List, [], ◌∷◌, map}
-use mathlib.Core.Option.{Option, none, some, or_else}
 use Prim.Native.Nat.{ℕ}
 use native.Mathlib.Omega.{arith}
 use lib.Ieee.{of_int, mul, div, lt}
@@ -13,7 +13,7 @@ use Rattle.format.specs.declared.EvTechnique.TheVariants.{Physical}
 use Rattle.format.specs.declared.EtcTechnique.{EtcTechnique}
 use Rattle.format.specs.declared.EtcTechnique.TheVariants.{Remaining, Planned, Cpi, CpiSpi}
 use Rattle.format.specs.declared.ChangeStatus.TheVariants.{Pending, NotApproved}
-use Rattle.format.specs.declared.Region.TheVariants.{None}
+use Rattle.format.specs.declared.Region.TheVariants as regions
 use Rattle.format.specs.Enumeration.{change_status_number}
 use Rattle.format.specs.Book.{Calendar, Activity, BaselineLine, Budget, BudgetChange, PeriodRecord, Book}
 use Rattle.format.specs.Format.{names}
@@ -56,7 +56,7 @@ forecast_cases = refl
 -- ---- variances
 
 abbrev week : ℕ → Calendar
-week bits = record { week = bits; region = None; holidays = []; extra_days = []; exceptions = [] }
+week bits = record { week = bits; region = regions.None; holidays = []; extra_days = []; exceptions = [] }
 
 -- 19723 is a Monday: from the Friday before to the Tuesday after there are two days of work, and less than none the other way
 pub working_between_lem :
@@ -74,8 +74,8 @@ abbrev line : ℕ → ℤ → BaselineLine
 line activity cost = record { activity = activity; start = 20000; finish = 20000; minutes = 0; cost = cost }
 
 -- of two lines of an activity the last counts
-pub last_of_two : last_among (line 0 (pos 100) ∷ line 0 (pos 200) ∷ line 1 (pos 7) ∷ []) 0 ≡ some (line 0 (pos 200))
-unfolding last_among or_else
+pub last_of_two : last_among (line 0 (pos 100) ∷ line 0 (pos 200) ∷ line 1 (pos 7) ∷ []) 0 ≡ Some (line 0 (pos 200))
+unfolding last_among
 last_of_two = refl
 
 -- ---- budgets
@@ -84,21 +84,21 @@ abbrev under : Option ℕ → Activity
 under parent =
     record {
       parent = parent;
-      calendar = none;
+      calendar = None;
       status = NotStarted;
       early_start = 20000;
       early_finish = 20000;
-      actual_start = none;
-      actual_finish = none;
+      actual_start = None;
+      actual_finish = None;
       working_minutes = 0;
       remaining_minutes = 0;
-      percent = none;
+      percent = None;
     }
 
 abbrev money : List Activity → List Budget → List BudgetChange → List ℤ → List ℕ → List PeriodRecord → Book
 money activities budgets log funds periods records =
     record {
-      data_date = none;
+      data_date = None;
       technique = Physical;
       forecast = Remaining;
       calendars = week 127 ∷ [];
@@ -106,7 +106,7 @@ money activities budgets log funds periods records =
       resources = [];
       assignments = [];
       expenses = [];
-      baseline = none;
+      baseline = None;
       budgets = budgets;
       log = log;
       funds = funds;
@@ -116,22 +116,22 @@ money activities budgets log funds periods records =
 
 -- an activity that is its own parent distributes to itself; its depth ends with its walk
 abbrev circle : Book
-circle = money (under (some 0) ∷ []) (record { activity = some 0; original = pos 7; plan = [] } ∷ []) [] [] [] []
+circle = money (under (Some 0) ∷ []) (record { activity = Some 0; original = pos 7; plan = [] } ∷ []) [] [] [] []
 
-pub own_parent : (depth_of circle 0 ≡ 2) × (distributed_of circle (some 0) ≡ pos 7) × (distributed_of circle none ≡ pos 0)
+pub own_parent : (depth_of circle 0 ≡ 2) × (distributed_of circle (Some 0) ≡ pos 7) × (distributed_of circle None ≡ pos 0)
 unfolding depth_of distributed_of line_accounts has_line current_of budget_for changes names steps_made walk steps parents is_leaf any span keep saturated
 own_parent = (refl, refl, refl)
 
 -- a change that was not approved gives a leaf a line, and no money; a budget gives one too
 abbrev refused : Book
 refused =
-    money (under none ∷ under none ∷ under none ∷ []) (record { activity = some 2; original = pos 5; plan = [] } ∷ [])
-    (record { activity = some 0; amount = pos 9; status = NotApproved } ∷ record { activity = some 0; amount = pos 4; status = Pending } ∷ []) (pos 3 ∷ []) [] []
+    money (under None ∷ under None ∷ under None ∷ []) (record { activity = Some 2; original = pos 5; plan = [] } ∷ [])
+    (record { activity = Some 0; amount = pos 9; status = NotApproved } ∷ record { activity = Some 0; amount = pos 4; status = Pending } ∷ []) (pos 3 ∷ []) [] []
 
 pub refused_change :
     (line_accounts refused ≡ 0 ∷ 2 ∷ [])
-    × (current_of refused (some 0) ≡ pos 0)
-    × (proposed_of refused (some 0) ≡ pos 4)
+    × (current_of refused (Some 0) ≡ pos 0)
+    × (proposed_of refused (Some 0) ≡ pos 4)
     × (funded refused ≡ pos 3)
     × (not_covered refused ≡ negsuc 2)
 unfolding
@@ -149,20 +149,20 @@ earned_in r = r.earned
 
 -- periods that close on one day count for each other
 abbrev alike : Book
-alike = money (under none ∷ []) [] [] [] (20000 ∷ 20000 ∷ []) (stored 0 (pos 5) ∷ stored 1 (pos 7) ∷ [])
+alike = money (under None ∷ []) [] [] [] (20000 ∷ 20000 ∷ []) (stored 0 (pos 5) ∷ stored 1 (pos 7) ∷ [])
 
 -- a period with nothing of its own is absent, however much came before
 abbrev between : Book
-between = money (under none ∷ []) [] [] [] (19990 ∷ 20000 ∷ 20010 ∷ []) (stored 0 (pos 5) ∷ stored 2 (pos 1) ∷ [])
+between = money (under None ∷ []) [] [] [] (19990 ∷ 20000 ∷ 20010 ∷ []) (stored 0 (pos 5) ∷ stored 2 (pos 1) ∷ [])
 
 -- a parent's record does not count
 abbrev of_parent : Book
-of_parent = money (under none ∷ under (some 0) ∷ []) [] [] [] (20000 ∷ []) (stored 0 (pos 5) ∷ [])
+of_parent = money (under None ∷ under (Some 0) ∷ []) [] [] [] (20000 ∷ []) (stored 0 (pos 5) ∷ [])
 
 pub period_cases :
-    (map (to_date alike earned_in) (0 ∷ 1 ∷ []) ≡ some (pos 12) ∷ some (pos 12) ∷ [])
-    × (map (to_date between earned_in) (0 ∷ 1 ∷ 2 ∷ []) ≡ some (pos 5) ∷ none ∷ some (pos 6) ∷ [])
-    × (map (to_date between actual_in) (0 ∷ 1 ∷ 2 ∷ []) ≡ some (pos 1) ∷ none ∷ some (pos 2) ∷ [])
-    × (to_date of_parent earned_in 0 ≡ none)
+    (map (to_date alike earned_in) (0 ∷ 1 ∷ []) ≡ Some (pos 12) ∷ Some (pos 12) ∷ [])
+    × (map (to_date between earned_in) (0 ∷ 1 ∷ 2 ∷ []) ≡ Some (pos 5) ∷ None ∷ Some (pos 6) ∷ [])
+    × (map (to_date between actual_in) (0 ∷ 1 ∷ 2 ∷ []) ≡ Some (pos 1) ∷ None ∷ Some (pos 2) ∷ [])
+    × (to_date of_parent earned_in 0 ≡ None)
 unfolding to_date is_stored records_to_date actual_in parents is_leaf any keep saturated
 period_cases = (refl, refl, refl, refl)

@@ -1,9 +1,8 @@
 -- Small cases at the edges of the definitions, by computation.
-use Rattle.std.specs.Prelude.{None}
+use Rattle.std.specs.Prelude.{None, Option, Some}
 use mathlib.Core.Path.{◌≡◌, refl}
 use mathlib.Core.Bool.{Bool, true, false}
 use mathlib.Core.List.{List, [], ◌∷◌, ◌++◌, map, flat_map, zip_with}
-use mathlib.Core.Option.{Option, none, some, or_else}
 use Prim.Native.Nat.{ℕ}
 use native.Mathlib.Omega.{arith}
 use lib.ListN.{get_or}
@@ -25,7 +24,7 @@ use Rattle.format.specs.declared.EtcTechnique.TheVariants as etc
 use Rattle.format.specs.declared.ResourceKind.{ResourceKind}
 use Rattle.format.specs.declared.ResourceKind.TheVariants.{Labor, Nonlabor}
 use Rattle.format.specs.declared.Accrual.TheVariants.{Start, End, Uniform}
-use Rattle.format.specs.declared.Region.TheVariants.{None}
+use Rattle.format.specs.declared.Region.TheVariants as regions
 use Rattle.format.specs.Enumeration.{resource_kind_number}
 use Rattle.format.specs.Book.{Exception, Calendar, Activity, Resource, Assignment, Expense, BaselineLine, Book}
 use Rattle.lists.specs.Lists.{any, span, keep}
@@ -53,14 +52,14 @@ rows ps own = map (roll_up (λ a b. clamp w64 (a +ℤ b)) ps (λ i. get_or own i
 abbrev trees : List (Parents × List ℤ × List ℤ)
 trees =
     -- an activity that is its own parent, alone and with a leaf: each of the count + 1 steps brings the figure
-    (some 0 ∷ [], pos 100 ∷ [], pos 300 ∷ [])
-    ∷ (some 0 ∷ some 0 ∷ [], pos 0 ∷ pos 100 ∷ [], pos 300 ∷ pos 100 ∷ [])
+    (Some 0 ∷ [], pos 100 ∷ [], pos 300 ∷ [])
+    ∷ (Some 0 ∷ Some 0 ∷ [], pos 0 ∷ pos 100 ∷ [], pos 300 ∷ pos 100 ∷ [])
     -- 0 and 1 are each other's parent, 2 and 3 stand under 0
-    ∷ (some 1 ∷ some 0 ∷ some 0 ∷ some 0 ∷ [], pos 0 ∷ pos 0 ∷ pos 100 ∷ pos 0 ∷ [], pos 300 ∷ pos 200 ∷ pos 100 ∷ pos 0 ∷ [])
+    ∷ (Some 1 ∷ Some 0 ∷ Some 0 ∷ Some 0 ∷ [], pos 0 ∷ pos 0 ∷ pos 100 ∷ pos 0 ∷ [], pos 300 ∷ pos 200 ∷ pos 100 ∷ pos 0 ∷ [])
     -- a parent's row saturates at each step
-    ∷ (none ∷ some 0 ∷ some 0 ∷ some 0 ∷ [], pos 0 ∷ max ∷ pos 1 ∷ negsuc 0 ∷ [], (max -ℤ pos 1) ∷ max ∷ pos 1 ∷ negsuc 0 ∷ [])
+    ∷ (None ∷ Some 0 ∷ Some 0 ∷ Some 0 ∷ [], pos 0 ∷ max ∷ pos 1 ∷ negsuc 0 ∷ [], (max -ℤ pos 1) ∷ max ∷ pos 1 ∷ negsuc 0 ∷ [])
     -- and starts from its own figure, whatever its index
-    ∷ (some 2 ∷ some 2 ∷ none ∷ [], max ∷ pos 3 ∷ negsuc 4 ∷ [], max ∷ pos 3 ∷ (max -ℤ pos 2) ∷ [])
+    ∷ (Some 2 ∷ Some 2 ∷ None ∷ [], max ∷ pos 3 ∷ negsuc 4 ∷ [], max ∷ pos 3 ∷ (max -ℤ pos 2) ∷ [])
     ∷ []
 
 pub tree_rows : map (λ (t : Parents × List ℤ × List ℤ). rows t.0 t.1) trees ≡ map (λ (t : Parents × List ℤ × List ℤ). t.2) trees
@@ -68,14 +67,14 @@ unfolding roll_up brought walk_up walk steps flat_map span keep
 tree_rows = refl
 
 -- the walk of an activity that is its own parent, by its limit
-pub steps_made_lem : (steps_made (some 0 ∷ []) 1 0 ≡ 1) × (steps_made (some 0 ∷ []) 2 0 ≡ 2)
+pub steps_made_lem : (steps_made (Some 0 ∷ []) 1 0 ≡ 1) × (steps_made (Some 0 ∷ []) 2 0 ≡ 2)
 unfolding steps_made walk steps
 steps_made_lem = (refl, refl)
 
 -- ---- calendars
 
 abbrev dates : ℕ → List ℕ → List ℕ → List Exception → Calendar
-dates week holidays extra_days exceptions = record { week = week; region = None; holidays = holidays; extra_days = extra_days; exceptions = exceptions }
+dates week holidays extra_days exceptions = record { week = week; region = regions.None; holidays = holidays; extra_days = extra_days; exceptions = exceptions }
 
 abbrev idle : ℕ → List Exception
 idle day = record { day = day; working = false } ∷ []
@@ -140,7 +139,7 @@ no_days = refl
 abbrev line : ℕ → ℤ → BaselineLine
 line activity cost = record { activity = activity; start = 20000; finish = 20000; minutes = 0; cost = cost }
 
-pub first_of_two : first_line (line 1 (pos 7) ∷ line 0 (pos 100) ∷ line 0 (pos 200) ∷ []) 0 ≡ some (line 0 (pos 100))
+pub first_of_two : first_line (line 1 (pos 7) ∷ line 0 (pos 100) ∷ line 0 (pos 200) ∷ []) 0 ≡ Some (line 0 (pos 100))
 unfolding first_line
 first_of_two = refl
 
@@ -150,7 +149,7 @@ abbrev pub activity : Option ℕ → Status → ℕ → ℕ → Option ℕ → O
 activity parent status start finish actual_start actual_finish =
     record {
       parent = parent;
-      calendar = none;
+      calendar = None;
       status = status;
       early_start = start;
       early_finish = finish;
@@ -158,7 +157,7 @@ activity parent status start finish actual_start actual_finish =
       actual_finish = actual_finish;
       working_minutes = 0;
       remaining_minutes = 0;
-      percent = none;
+      percent = None;
     }
 
 abbrev book_by : EvTechnique → Calendar → Option ℕ → List Activity → List Resource → List Assignment → List Expense → Book
@@ -172,7 +171,7 @@ book_by technique calendar data_date activities resources assignments expenses =
       resources = resources;
       assignments = assignments;
       expenses = expenses;
-      baseline = none;
+      baseline = None;
       budgets = [];
       log = [];
       funds = [];
@@ -184,16 +183,16 @@ abbrev pub book : Calendar → Option ℕ → List Activity → List Resource �
 book = book_by Physical
 
 abbrev at100 : ResourceKind → Resource
-at100 kind = record { kind = kind; prices = record { from = none; per_unit = pos 100 } ∷ [] }
+at100 kind = record { kind = kind; prices = record { from = None; per_unit = pos 100 } ∷ [] }
 
 abbrev assigned : ℕ → ℕ → ℤ → ℤ → Assignment
-assigned activity resource planned actual = record { activity = activity; resource = some resource; planned = planned; actual = actual; remaining = pos 0 }
+assigned activity resource planned actual = record { activity = activity; resource = Some resource; planned = planned; actual = actual; remaining = pos 0 }
 
 abbrev spent : ℕ → ℤ → Expense
 spent activity planned = record { activity = activity; accrual = Uniform; planned = planned; actual = pos 0; remaining = pos 0 }
 
 abbrev planned : Activity
-planned = activity none NotStarted 20000 20000 none none
+planned = activity None NotStarted 20000 20000 None None
 
 module _ (calendar : Calendar) where
   one : (d : ℕ) → day_list calendar d d ≡ d ∷ []
@@ -205,17 +204,17 @@ module _ (calendar : Calendar) where
 
   pub edge_days :
       -- an actual finish without a start
-      (days none (activity none Completed 20000 20000 none (some 20003)) ≡ (20000 ∷ []) ∷ (20003 ∷ []) ∷ [] ∷ [])
+      (days None (activity None Completed 20000 20000 None (Some 20003)) ≡ (20000 ∷ []) ∷ (20003 ∷ []) ∷ [] ∷ [])
       -- neither
-      × (days none (activity none Completed 20000 20000 none none) ≡ (20000 ∷ []) ∷ [] ∷ [] ∷ [])
+      × (days None (activity None Completed 20000 20000 None None) ≡ (20000 ∷ []) ∷ [] ∷ [] ∷ [])
       -- the day before the first data date
-      × (days (some 10957) (activity none InProgress 20000 20000 (some 10957) none) ≡ (20000 ∷ []) ∷ (10957 ∷ []) ∷ (20000 ∷ []) ∷ [])
+      × (days (Some 10957) (activity None InProgress 20000 20000 (Some 10957) None) ≡ (20000 ∷ []) ∷ (10957 ∷ []) ∷ (20000 ∷ []) ∷ [])
       -- an early finish before the early start: its planned day is the one, its remaining day the other
-      × (days (some 20010) (activity none InProgress 20005 20001 none none) ≡ (20005 ∷ []) ∷ [] ∷ (20001 ∷ []) ∷ [])
+      × (days (Some 20010) (activity None InProgress 20005 20001 None None) ≡ (20005 ∷ []) ∷ [] ∷ (20001 ∷ []) ∷ [])
       -- an actual start alone, and one after the actual finish, whatever the data date
-      × (days none (activity none InProgress 20000 20000 (some 20003) none) ≡ (20000 ∷ []) ∷ (20003 ∷ []) ∷ (20000 ∷ []) ∷ [])
-      × (days (some 20010) (activity none Completed 20000 20000 (some 20004) (some 20003)) ≡ (20000 ∷ []) ∷ (20004 ∷ []) ∷ [] ∷ [])
-  unfolding days_of planned_days actual_days days_since remaining_days days_left remaining_from calendar_of or_else
+      × (days None (activity None InProgress 20000 20000 (Some 20003) None) ≡ (20000 ∷ []) ∷ (20003 ∷ []) ∷ (20000 ∷ []) ∷ [])
+      × (days (Some 20010) (activity None Completed 20000 20000 (Some 20004) (Some 20003)) ≡ (20000 ∷ []) ∷ (20004 ∷ []) ∷ [] ∷ [])
+  unfolding days_of planned_days actual_days days_since remaining_days days_left remaining_from calendar_of
   edge_days = (
     rw (one 20000, one 20003),
     rw (one 20000),
@@ -236,7 +235,7 @@ module _ (calendar : Calendar) where
 
   -- the spending goes activity after activity, each with its assignments and then its expenses
   abbrev ordered : Book
-  ordered = book calendar none (planned ∷ planned ∷ []) (at100 Labor ∷ []) (assigned 1 0 max (pos 0) ∷ []) (spent 1 (pos 3) ∷ spent 0 (negsuc 4) ∷ [])
+  ordered = book calendar None (planned ∷ planned ∷ []) (at100 Labor ∷ []) (assigned 1 0 max (pos 0) ∷ []) (spent 1 (pos 3) ∷ spent 0 (negsuc 4) ∷ [])
 
   pub spending_order : spending_between ordered 20000 20000 ≡ on 20000 (max -ℤ pos 2) ∷ []
   unfolding
@@ -247,7 +246,7 @@ module _ (calendar : Calendar) where
 
   -- a parent's own expense is in its cost and in the spending, and not in the project's cost
   abbrev parental : Book
-  parental = book calendar none (planned ∷ activity (some 0) NotStarted 20000 20000 none none ∷ []) [] [] (spent 0 (pos 100) ∷ spent 1 (pos 1) ∷ [])
+  parental = book calendar None (planned ∷ activity (Some 0) NotStarted 20000 20000 None None ∷ []) [] [] (spent 0 (pos 100) ∷ spent 1 (pos 1) ∷ [])
 
   abbrev unspent : ℤ → Cost
   unspent z = record { budget = z; actual = pos 0; remaining = pos 0 }
@@ -265,7 +264,7 @@ module _ (calendar : Calendar) where
   -- by kind each assignment is summed by itself; the activity's cost goes through all of them, and saturates before the last
   abbrev worked : Book
   worked =
-      book calendar none (activity none InProgress 20000 20000 (some 20000) (some 20000) ∷ []) (at100 Labor ∷ at100 Nonlabor ∷ [])
+      book calendar None (activity None InProgress 20000 20000 (Some 20000) (Some 20000) ∷ []) (at100 Labor ∷ at100 Nonlabor ∷ [])
       (assigned 0 0 (pos 0) max ∷ assigned 0 1 (pos 0) (pos 5) ∷ assigned 0 0 (pos 0) (negsuc 4) ∷ []) []
 
   pub kinds_and_cost :
@@ -273,13 +272,13 @@ module _ (calendar : Calendar) where
       × ((own_cost worked 0).actual ≡ max -ℤ pos 5)
   unfolding
       actual_by_kind kind_cost kind_units resource_kind_number expense_cost of_kind own_cost by_day assignments_of expenses_of assignment_amounts expense_amounts priced price_on
-      price_among spread_over days_of planned_days actual_days days_since remaining_days days_left remaining_from calendar_of or_else saturated_sum keep flat_map zip_with
+      price_among spread_over days_of planned_days actual_days days_since remaining_days days_left remaining_from calendar_of saturated_sum keep flat_map zip_with
       share_of shares_from scaled_by in_range saturated
   kinds_and_cost = (rw (one 20000), rw (one 20000))
 
   -- the units of an unstarted activity count, their cost does not
   abbrev unstarted : Book
-  unstarted = book calendar none (planned ∷ []) (at100 Labor ∷ []) (assigned 0 0 (pos 0) (pos 5) ∷ []) []
+  unstarted = book calendar None (planned ∷ []) (at100 Labor ∷ []) (assigned 0 0 (pos 0) (pos 5) ∷ []) []
 
   pub unstarted_units : actual_by_kind unstarted 0
       ≡ record { labor = pos 0; nonlabor = pos 0; material = pos 0; expense = pos 0; labor_units = pos 5; nonlabor_units = pos 0 }
@@ -294,20 +293,20 @@ module _ (calendar : Calendar) where
   abbrev quarter_done : Status → Activity
   quarter_done status =
       record {
-        parent = none;
-        calendar = none;
+        parent = None;
+        calendar = None;
         status = status;
         early_start = 20000;
         early_finish = 20000;
-        actual_start = none;
-        actual_finish = none;
+        actual_start = None;
+        actual_finish = None;
         working_minutes = 1440;
         remaining_minutes = 960;
-        percent = some (pos 2500);
+        percent = Some (pos 2500);
       }
 
   abbrev done : EvTechnique → Status → Float
-  done technique status = performance (book_by technique calendar none (quarter_done status ∷ []) [] [] []) 0
+  done technique status = performance (book_by technique calendar None (quarter_done status ∷ []) [] [] []) 0
 
   abbrev techniques : List (EvTechnique × Status × ℤ)
   techniques =
@@ -338,24 +337,24 @@ module _ (calendar : Calendar) where
   -- an activity under way without a percent, and units, by its minutes in all and those that remain
   abbrev measured : EvTechnique → List Assignment → ℕ → ℕ → Float
   measured technique units minutes left =
-      performance (book_by technique calendar none
+      performance (book_by technique calendar None
       (record {
-        parent = none;
-        calendar = none;
+        parent = None;
+        calendar = None;
         status = InProgress;
         early_start = 20000;
         early_finish = 20000;
-        actual_start = none;
-        actual_finish = none;
+        actual_start = None;
+        actual_finish = None;
         working_minutes = minutes;
         remaining_minutes = left;
-        percent = none;
+        percent = None;
       }
       ∷ []) [] units []) 0
 
   -- 3 units done, and one less than none to do
   abbrev overdone : List Assignment
-  overdone = record { activity = 0; resource = none; planned = pos 0; actual = pos 3; remaining = negsuc 0 } ∷ []
+  overdone = record { activity = 0; resource = None; planned = pos 0; actual = pos 3; remaining = negsuc 0 } ∷ []
 
   -- no percent and no minutes are nothing; what is done is from nothing to all, also where more minutes remain than there are, or more units are done
   pub measured_cases : map (earned_of (pos 1000))
@@ -369,6 +368,6 @@ module _ (calendar : Calendar) where
   measured_cases = refl
 
   -- each activity by its own status: completed, and unstarted without a percent
-  pub by_status : map (performance (book calendar none (activity none Completed 20000 20000 none none ∷ planned ∷ []) [] [] [])) (0 ∷ 1 ∷ []) ≡ all ∷ nought ∷ []
+  pub by_status : map (performance (book calendar None (activity None Completed 20000 20000 None None ∷ planned ∷ []) [] [] [])) (0 ∷ 1 ∷ []) ≡ all ∷ nought ∷ []
   unfolding performance of_int div lt
   by_status = refl

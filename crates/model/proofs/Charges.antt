@@ -1,9 +1,8 @@
 -- What is charged to an activity, three ways and by kind; the spending by month; an activity's days, the baseline's and the variances from it. Each on a small
 -- book, by computation.
-use Rattle.std.specs.Prelude.{Some}
+use Rattle.std.specs.Prelude.{Some, None, Option}
 use mathlib.Core.Path.{◌≡◌}
 use mathlib.Core.List.{List, [], ◌∷◌, map, flat_map, zip_with}
-use mathlib.Core.Option.{Option, none, some, or_else}
 use Prim.Native.Nat.{ℕ, ◌+◌, ◌-◌, ◌≤◌}
 use native.Mathlib.Omega.{arith}
 use lib.IntN.{ℤ, pos, negsuc}
@@ -23,7 +22,7 @@ use Rattle.format.specs.declared.EtcTechnique.TheVariants as etc
 use Rattle.format.specs.declared.ResourceKind.{ResourceKind}
 use Rattle.format.specs.declared.ResourceKind.TheVariants.{Labor, Nonlabor, Material}
 use Rattle.format.specs.declared.Accrual.TheVariants.{Uniform}
-use Rattle.format.specs.declared.Region.TheVariants.{None}
+use Rattle.format.specs.declared.Region.TheVariants as regions
 use Rattle.format.specs.Enumeration.{resource_kind_number}
 use Rattle.format.specs.Book.{Calendar, Activity, Resource, Assignment, Expense, BaselineLine, Book}
 use Rattle.lists.specs.Lists.{any, span, keep}
@@ -47,7 +46,7 @@ abbrev activity : Option ℕ → Status → ℕ → ℕ → Option ℕ → Optio
 activity parent status start finish actual_start actual_finish =
     record {
       parent = parent;
-      calendar = none;
+      calendar = None;
       status = status;
       early_start = start;
       early_finish = finish;
@@ -55,7 +54,7 @@ activity parent status start finish actual_start actual_finish =
       actual_finish = actual_finish;
       working_minutes = 600;
       remaining_minutes = 300;
-      percent = none;
+      percent = None;
     }
 
 abbrev book : Option ℕ → Calendar → List Activity → List Resource → List Assignment → List Expense → List BaselineLine → Book
@@ -69,7 +68,7 @@ book data_date calendar activities resources assignments expenses lines =
       resources = resources;
       assignments = assignments;
       expenses = expenses;
-      baseline = some lines;
+      baseline = Some lines;
       budgets = [];
       log = [];
       funds = [];
@@ -79,10 +78,10 @@ book data_date calendar activities resources assignments expenses lines =
 
 -- not started, on one day
 abbrev planned : ℕ → Activity
-planned day = activity none NotStarted day day none none
+planned day = activity None NotStarted day day None None
 
 abbrev costing : ResourceKind → ℕ → Resource
-costing kind price = record { kind = kind; prices = record { from = none; per_unit = pos price } ∷ [] }
+costing kind price = record { kind = kind; prices = record { from = None; per_unit = pos price } ∷ [] }
 
 abbrev assigned : ℕ → Option ℕ → ℕ → ℕ → ℕ → Assignment
 assigned activity resource planned actual remaining =
@@ -108,13 +107,13 @@ module _ (calendar : Calendar) where
 
   abbrev three_ways : Book
   three_ways =
-      book none calendar (activity none InProgress 20005 20001 (some 20003) (some 20003) ∷ activity none InProgress 20000 20000 (some 20003) (some 20003) ∷ [])
+      book None calendar (activity None InProgress 20005 20001 (Some 20003) (Some 20003) ∷ activity None InProgress 20000 20000 (Some 20003) (Some 20003) ∷ [])
       (costing Labor 500 ∷ costing Nonlabor 300 ∷ costing Material 200 ∷ [])
-      (assigned 0 (some 0) 1 20 300
-      ∷ assigned 1 (some 0) 7 7 7
-      ∷ assigned 0 none 5 50 600
-      ∷ assigned 0 (some 1) 2 30 400
-      ∷ assigned 0 (some 2) 3 40 500
+      (assigned 0 (Some 0) 1 20 300
+      ∷ assigned 1 (Some 0) 7 7 7
+      ∷ assigned 0 None 5 50 600
+      ∷ assigned 0 (Some 1) 2 30 400
+      ∷ assigned 0 (Some 2) 3 40 500
       ∷ [])
       (spent 1 (pos 9) (pos 9) (pos 9) ∷ spent 0 (pos 8) (pos 60) (pos 700) ∷ []) []
 
@@ -126,7 +125,7 @@ module _ (calendar : Calendar) where
       ∷ []
   unfolding
       by_day assignments_of expenses_of assignment_amounts expense_amounts accrued priced price_on price_among spread_over days_of planned_days actual_days days_since remaining_days
-      days_left remaining_from calendar_of or_else keep flat_map zip_with share_of shares_from scaled_by in_range
+      days_left remaining_from calendar_of keep flat_map zip_with share_of shares_from scaled_by in_range
   by_day_lem = rw (one 20005 20001 (omega arith), one 20003 20003 (omega arith), one 20001 20001 (omega arith))
 
   -- the other activity has its own alone
@@ -139,14 +138,14 @@ module _ (calendar : Calendar) where
   pub by_kind : actual_by_kind three_ways 0 ≡ record { labor = pos 100; nonlabor = pos 90; material = pos 80; expense = pos 60; labor_units = pos 20; nonlabor_units = pos 30 }
   unfolding
       actual_by_kind kind_cost kind_units resource_kind_number expense_cost of_kind assignments_of expenses_of assignment_amounts expense_amounts accrued priced price_on price_among
-      spread_over days_of actual_days days_since calendar_of or_else saturated_sum keep flat_map zip_with share_of shares_from scaled_by in_range saturated
+      spread_over days_of actual_days days_since calendar_of saturated_sum keep flat_map zip_with share_of shares_from scaled_by in_range saturated
   by_kind = rw (one 20003 20003 (omega arith))
 
   -- ---- the spending by month: 2 and 3 February 1970, added up day by day and not activity by activity
 
   abbrev february : Book
   february =
-      book none calendar (planned 33 ∷ planned 32 ∷ planned 33 ∷ []) [] []
+      book None calendar (planned 33 ∷ planned 32 ∷ planned 33 ∷ []) [] []
       (spent 0 (pos max) (pos 0) (pos 0) ∷ spent 1 (pos 5) (pos 0) (pos 0) ∷ spent 2 (negsuc 4) (pos 0) (pos 0) ∷ []) []
 
   february_days : spending february ≡ on 32 (pos 5) ∷ on 33 (pos 0x7fff_ffff_ffff_fffa) ∷ []
@@ -162,13 +161,13 @@ module _ (calendar : Calendar) where
 -- ---- a week of Monday to Friday: 19,723 is a Monday, 19,728 a Saturday
 
 abbrev week : Calendar
-week = record { week = 31; region = None; holidays = []; extra_days = []; exceptions = [] }
+week = record { week = 31; region = regions.None; holidays = []; extra_days = []; exceptions = [] }
 
 -- due from Monday to the Monday after, begun on Monday, at a data date of Thursday: done up to the day before it, to be done from it on
-pub under_way_lem : map (λ (way : Way). days_of (book (some 19726) week (activity none InProgress 19723 19730 (some 19723) none ∷ []) [] [] [] []) way 0) (Planned ∷ Actual ∷ Remaining ∷ [])
+pub under_way_lem : map (λ (way : Way). days_of (book (Some 19726) week (activity None InProgress 19723 19730 (Some 19723) None ∷ []) [] [] [] []) way 0) (Planned ∷ Actual ∷ Remaining ∷ [])
     ≡ (19723 ∷ 19724 ∷ 19725 ∷ 19726 ∷ 19727 ∷ 19730 ∷ []) ∷ (19723 ∷ 19724 ∷ 19725 ∷ []) ∷ (19726 ∷ 19727 ∷ 19730 ∷ []) ∷ []
 unfolding
-    days_of planned_days actual_days days_since remaining_days days_left remaining_from day_list working_days dates_between calendar_of or_else is_working exception_on usually_works
+    days_of planned_days actual_days days_since remaining_days days_left remaining_from day_list working_days dates_between calendar_of is_working exception_on usually_works
     is_region_holiday works_on any span keep
 under_way_lem = rw (
   weekday_is 19723 (omega arith),
@@ -184,7 +183,7 @@ under_way_lem = rw (
 -- the leaf is due from Monday to Thursday, and in the baseline from Tuesday to Sunday
 abbrev late : Book
 late =
-    book none week (activity none NotStarted 19723 19724 none none ∷ activity (some 0) NotStarted 19723 19726 none none ∷ []) [] [] []
+    book None week (activity None NotStarted 19723 19724 None None ∷ activity (Some 0) NotStarted 19723 19726 None None ∷ []) [] [] []
     (record { activity = 1; start = 19724; finish = 19729; minutes = 480; cost = pos 100 } ∷ [])
 
 -- without a line the early dates, with one its own
@@ -202,9 +201,9 @@ listed = rw (
 )
 
 -- it starts a working day before the baseline and finishes two before it; the parent has no line
-pub variances_late : variances late ≡ none ∷ some (record { start = pos 1; finish = pos 2; duration = negsuc 119; cost = pos 100 }) ∷ []
+pub variances_late : variances late ≡ None ∷ Some (record { start = pos 1; finish = pos 2; duration = negsuc 119; cost = pos 100 }) ∷ []
 unfolding
-    variances variance_of last_line last_among or_else variance_from working_between working_up_to cost_of roll_up brought walk_up walk steps own_cost by_day assignments_of
+    variances variance_of last_line last_among variance_from working_between working_up_to cost_of roll_up brought walk_up walk steps own_cost by_day assignments_of
     expenses_of parents calendar_of is_working exception_on usually_works is_region_holiday works_on any span keep flat_map saturated_sum saturated
 variances_late = rw (
   weekday_is 19723 (omega arith),

@@ -1,7 +1,7 @@
 -- Document 01's example book: what its activities cost, their earned value, the planned curve.
+use Rattle.std.specs.Prelude.{Some}
 use mathlib.Core.Path.{◌≡◌, refl, ap}
 use mathlib.Core.List.{List, [], ◌∷◌, flat_map, zip_with}
-use mathlib.Core.Option.{or_else, some}
 use native.Mathlib.Omega.{arith}
 use lib.Ieee.{of_int, mul, div, lt}
 use lib.IntN.{pos}
@@ -47,14 +47,14 @@ cost = record { budget = pos 1000; actual = pos 400; remaining = pos 600 }
 pub example_costs : costs example ≡ cost ∷ cost ∷ []
 unfolding
     costs cost_of own_cost by_day assignments_of expenses_of expense_amounts accrued roll_up brought walk_up walk steps parents saturated_sum spread_over
-    days_of planned_days actual_days days_since remaining_days days_left remaining_from calendar_of span keep share_of shares_from flat_map zip_with or_else saturated
+    days_of planned_days actual_days days_since remaining_days days_left remaining_from calendar_of span keep share_of shares_from flat_map zip_with saturated
 example_costs = rw (planned_days_lem, actual_days_lem, remaining_days_lem)
 
 pub example_project : project_cost example ≡ cost
 unfolding
     project_cost leaves is_leaf cost_of own_cost by_day assignments_of expenses_of expense_amounts accrued roll_up brought walk_up walk steps parents
     saturated_sum spread_over days_of planned_days actual_days days_since remaining_days days_left remaining_from calendar_of any span keep share_of shares_from flat_map
-    zip_with or_else saturated
+    zip_with saturated
 example_project = rw (planned_days_lem, actual_days_lem, remaining_days_lem)
 
 pub example_spending : spending_between example 19723 19725 ≡ on 19723 (pos 334) ∷ on 19724 (pos 333) ∷ on 19725 (pos 333) ∷ []
@@ -91,7 +91,7 @@ pub example_total : project_earned example 19724 ≡ row
 unfolding project_earned earned_at leaves is_leaf roll_up brought walk_up walk steps parents any span keep flat_map
 example_total = rw own_rows.1
 
-pub example_spent : spent_in row ≡ some (pos 4000)
+pub example_spent : spent_in row ≡ Some (pos 4000)
 unfolding scaled_by in_range
 example_spent = refl
 

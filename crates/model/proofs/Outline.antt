@@ -1,9 +1,9 @@
 -- The outline keeps its promise, and in every book each parent is an activity.
+use Rattle.std.specs.Prelude.{None, Some}
 use Prim.Native.Nat.{ℕ, ◌+◌, ◌<◌}
 use mathlib.Core.Path.{◌≡◌, refl, sym, ap, ◌∙◌, subst}
 use mathlib.Core.Logic.{inl, inr, ⊎_elim}
 use mathlib.Core.List.{List, Memᴰ}
-use mathlib.Core.Option.{none, some, none-ne-some}
 use native.Mathlib.Omega.{arith}
 use native.Mathlib.Decide.{dec_lt, ℕ_discrete}
 use lib.ListN.{length, get_or}
@@ -21,6 +21,7 @@ use Rattle.model.proofs.Up.{up, below_inside, few_levels, made, no_circle, steps
 use Rattle.model.proofs.Siblings.{Under, one_sibling, outline_ordered, ordered_at}
 use Rattle.model.proofs.Circles.{top_or_circle}
 use Rattle.model.proofs.Branches.{top_of, in_tops, tops_distinct, below_by, in_branch, one_branch, branch_distinct, follow_flat, branch_follows, follow_at}
+use Rattle.lists.proofs.Options.{none_ne_some}
 
 module _ (ps : Parents) where
   abbrev from : ℕ → List Line
@@ -28,7 +29,7 @@ module _ (ps : Parents) where
 
   -- the top of a line, and how far up it stands
   abbrev Found : Line → Type 0
-  Found x = (t : ℕ) × (k : ℕ) × Top ps t × (x.level ≡ 1 + k) × (up ps k (some x.index) ≡ some t)
+  Found x = (t : ℕ) × (k : ℕ) × Top ps t × (x.level ≡ 1 + k) × (up ps k (Some x.index) ≡ Some t)
 
   found : (x : Line) → Memᴰ x (outline ps) → Found x
   unfolding outline branches
@@ -37,13 +38,13 @@ module _ (ps : Parents) where
       let v = below_by ps (length ps) 1 w.0 x w.2 in
       (w.0, v.0, top_of ps w.0 w.1, v.2, v.3)
 
-  there : (t k i : ℕ) → Top ps t → up ps k (some i) ≡ some t → Memᴰ (line (1 + k) i) (outline ps)
+  there : (t k i : ℕ) → Top ps t → up ps k (Some i) ≡ Some t → Memᴰ (line (1 + k) i) (outline ps)
   unfolding outline branches
   there t k i top u = in_flat from (line (1 + k) i) t (tops ps) (in_tops ps t top) (in_branch ps (length ps) k 1 (1 + k) i t (few_levels ps t top k i u) refl u)
 
-  steps_to : (i : ℕ) (h : HasTop ps i) → (k : ℕ) × (up ps k (some i) ≡ some h.0)
+  steps_to : (i : ℕ) (h : HasTop ps i) → (k : ℕ) × (up ps k (Some i) ≡ Some h.0)
   unfolding up
-  steps_to i h = ⊎_elim (λ e. (0, ap some e)) (steps_above ps) h.2
+  steps_to i h = ⊎_elim (λ e. (0, ap Some e)) (steps_above ps) h.2
 
   module _ (k : ℕ) (h : k < length (outline ps)) where
     at : Found (line_at (outline ps) k)
@@ -64,12 +65,12 @@ module _ (ps : Parents) where
       let level : (line_at (outline ps) j).level ≡ (line_at (outline ps) k).level = level_is j (omega arith) ∙ ap (λ (i : ℕ). 1 + steps_made ps (step_limit ps) i) e ∙ sym (level_is k l) in
       distinct_at (line 0 0) (outline ps) outline_distinct j k h l (ap (λ (n : ℕ). line n (line_at (outline ps) j).index) level ∙ ap (line (line_at (outline ps) k).level) e)
 
-  parent_first : (k p : ℕ) → k < length (outline ps) → parent_of ps (line_at (outline ps) k).index ≡ some p → (j : ℕ) × (j < k) × ((line_at (outline ps) j).index ≡ p)
+  parent_first : (k p : ℕ) → k < length (outline ps) → parent_of ps (line_at (outline ps) k).index ≡ Some p → (j : ℕ) × (j < k) × ((line_at (outline ps) j).index ≡ p)
   unfolding outline branches
   parent_first k p h e =
       ⊎_elim (λ w. w) absurd
       (follow_at ps (λ p. ⊥) (outline ps)
-      (follow_flat ps (λ p. ⊥) from (tops ps) (λ t m. branch_follows ps (length ps) 1 t (λ p. ⊥) (λ q s. none-ne-some q (sym (top_of ps t m).1 ∙ s))))
+      (follow_flat ps (λ p. ⊥) from (tops ps) (λ t m. branch_follows ps (length ps) 1 t (λ p. ⊥) (λ q s. none_ne_some q (sym (top_of ps t m).1 ∙ s))))
       k p h e)
 
   an_activity : (i : ℕ) → HasTop ps i → i < length ps
@@ -97,13 +98,13 @@ module _ (ps : Parents) where
       y = (line_at (outline ps) j).index
 
       under : Under ps a y
-      under = ⊎_elim (λ s. (0, ap some s)) (steps_above ps) inside
+      under = ⊎_elim (λ s. (0, ap Some s)) (steps_above ps) inside
 
       go : Dec (j < k) → Dec (k ≡ j) → j < k
       go (yes d) same = d
       go (no d) (yes same) =
           let f = at j l in
-          let self : Under ps b y = (0, ap (λ (n : ℕ). some (line_at (outline ps) n).index) (sym same) ∙ ap some here) in
+          let self : Under ps b y = (0, ap (λ (n : ℕ). Some (line_at (outline ps) n).index) (sym same) ∙ ap Some here) in
           absurd (omega (arith, one_sibling ps f.0 f.2 a b y f.1 f.4 e under self))
       go (no d) (no other) =
           absurd
@@ -126,5 +127,5 @@ pub parents_inside : (book : Book) → InRange book → ParentsInside (parents b
 unfolding parents
 parents_inside book r i p e =
     let h : i < length book.activities = omega (arith, has_parent (parents book) i p e, parents_count book) in
-    let here : (get_or book.activities i no_activity).parent ≡ some p = sym (at_map (λ (a : Activity). a.parent) book.activities i no_activity none h) ∙ e in
+    let here : (get_or book.activities i no_activity).parent ≡ Some p = sym (at_map (λ (a : Activity). a.parent) book.activities i no_activity None h) ∙ e in
     omega (arith, parents_count book, subst (Given (λ (j : ℕ). j < length book.activities)) here (r.activities i no_activity h).parent)

@@ -1,8 +1,8 @@
 -- The outline of small books under any calendar, and the figures of the activities in it, by computation.
+use Rattle.std.specs.Prelude.{None, Option, Some}
 use Prim.Native.Nat.{ℕ}
 use mathlib.Core.Path.{◌≡◌, refl}
 use mathlib.Core.List.{[], ◌∷◌, flat_map, zip_with}
-use mathlib.Core.Option.{Option, none, some, or_else}
 use lib.Ieee.{of_int, mul, div, lt}
 use lib.IntN.{pos}
 use Rattle.integer.specs.Folds.{saturated}
@@ -24,20 +24,20 @@ use Rattle.model.proofs.SpentCases.{paid, figures, small, one}
 
 -- planned for one day and not started
 abbrev unstarted : Option ℕ → Activity
-unstarted parent = activity parent NotStarted 20000 20000 none none
+unstarted parent = activity parent NotStarted 20000 20000 None None
 
 module _ (calendar : Calendar) where
   -- `outline-circle`: 1, which costs 100, hangs on 0, its own parent; 3, which costs 7, stands under 2
   abbrev pub outline_circle : Book
-  outline_circle = small calendar (unstarted (some 0) ∷ unstarted (some 0) ∷ unstarted none ∷ unstarted (some 2) ∷ []) (paid 1 (pos 100) (pos 0) ∷ paid 3 (pos 7) (pos 0) ∷ [])
+  outline_circle = small calendar (unstarted (Some 0) ∷ unstarted (Some 0) ∷ unstarted None ∷ unstarted (Some 2) ∷ []) (paid 1 (pos 100) (pos 0) ∷ paid 3 (pos 7) (pos 0) ∷ [])
 
   -- `outline-figures`: a parent that costs 100 itself, a child of 1
   abbrev pub outline_figures : Book
-  outline_figures = small calendar (unstarted none ∷ unstarted (some 0) ∷ []) (paid 0 (pos 100) (pos 0) ∷ paid 1 (pos 1) (pos 0) ∷ [])
+  outline_figures = small calendar (unstarted None ∷ unstarted (Some 0) ∷ []) (paid 0 (pos 100) (pos 0) ∷ paid 1 (pos 1) (pos 0) ∷ [])
 
   -- `circle-leaf`: a leaf that hangs on a circle
   abbrev pub circle_leaf : Book
-  circle_leaf = small calendar (unstarted (some 0) ∷ unstarted (some 0) ∷ []) (paid 1 (pos 100) (pos 0) ∷ [])
+  circle_leaf = small calendar (unstarted (Some 0) ∷ unstarted (Some 0) ∷ []) (paid 1 (pos 100) (pos 0) ∷ [])
 
   pub books_outlined :
       (outline (parents outline_circle) ≡ line 1 2 ∷ line 2 3 ∷ [])
@@ -53,7 +53,7 @@ module _ (calendar : Calendar) where
       × (own_earned outline_figures 47481 1 ≡ figures (pos 1) (pos 0))
   unfolding
       own_earned leaf_earned is_leaf parents any budget_of line_of first_line cost_of own_cost roll_up brought walk_up walk steps by_day assignments_of expenses_of
-      expense_amounts accrued spread_over days_of planned_days actual_days days_since remaining_days remaining_from days_left calendar_of or_else planned_on planned_amounts
+      expense_amounts accrued spread_over days_of planned_days actual_days days_since remaining_days remaining_from days_left calendar_of planned_on planned_amounts
       listed_days days_by saturated_sum saturated span keep flat_map zip_with share_of shares_from performance rounded whole_of of_int mul div lt
   own_figures = (refl, rw (one calendar), refl, rw (one calendar))
 

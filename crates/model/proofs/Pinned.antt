@@ -1,9 +1,8 @@
 -- What no other case fixes: each of these figures on a small book, by computation.
-use Rattle.std.specs.Prelude.{Some}
+use Rattle.std.specs.Prelude.{Some, None, Option}
 use mathlib.Core.Path.{◌≡◌, refl}
 use mathlib.Core.Bool.{Bool, true, false}
 use mathlib.Core.List.{List, [], ◌∷◌, map, flat_map, zip_with}
-use mathlib.Core.Option.{Option, none, some, or_else}
 use Prim.Native.Nat.{ℕ}
 use native.Mathlib.Omega.{arith}
 use lib.Ieee.{fin, of_int, mul, div, lt}
@@ -27,7 +26,7 @@ use Rattle.format.specs.declared.ResourceKind.TheVariants.{Labor}
 use Rattle.format.specs.declared.ChangeStatus.TheVariants.{Pending, Approved, NotApproved}
 use Rattle.format.specs.Enumeration.{change_status_number}
 use Rattle.format.specs.declared.Region.{Region}
-use Rattle.format.specs.declared.Region.TheVariants.{None, Brazil}
+use Rattle.format.specs.declared.Region.TheVariants as regions
 use Rattle.format.specs.Book.{Calendar, Activity, PeriodRecord, Book}
 use Rattle.format.specs.Format.{names}
 use Rattle.lists.specs.Lists.{any, span, keep}
@@ -66,14 +65,14 @@ abbrev every_day : Region → Calendar
 every_day region = record { week = 127; region = region; holidays = []; extra_days = []; exceptions = [] }
 
 -- it is a holiday: it rests in Brazil, and works without a region
-pub christmas_rests : is_holiday (pos 20082) ∷ is_working (every_day Brazil) 20082 ∷ is_working (every_day None) 20082 ∷ [] ≡ true ∷ false ∷ true ∷ []
+pub christmas_rests : is_holiday (pos 20082) ∷ is_working (every_day regions.Brazil) 20082 ∷ is_working (every_day regions.None) 20082 ∷ [] ≡ true ∷ false ∷ true ∷ []
 unfolding is_working exception_on usually_works is_region_holiday is_holiday is_holiday_on is_fixed works_on any
 christmas_rests = rw (christmas, weekday_is 20082 (omega arith))
 
 -- ---- an activity's own calendar, else the project's; no other
 
 pub own_calendar : (first second : Calendar) (book : Book) → book.calendars ≡ first ∷ second ∷ [] → (a : Activity)
-    → (a.calendar ≡ some 1 → calendar_of book a ≡ second) × (a.calendar ≡ none → calendar_of book a ≡ first)
+    → (a.calendar ≡ Some 1 → calendar_of book a ≡ second) × (a.calendar ≡ None → calendar_of book a ≡ first)
 unfolding calendar_of
 own_calendar first second book listed a = (λ e. rw (e, listed), λ e. rw (e, listed))
 
@@ -114,15 +113,15 @@ abbrev activity : Option ℕ → Activity
 activity parent =
     record {
       parent = parent;
-      calendar = none;
+      calendar = None;
       status = InProgress;
       early_start = 20000;
       early_finish = 20000;
-      actual_start = some 20000;
-      actual_finish = some 20000;
+      actual_start = Some 20000;
+      actual_finish = Some 20000;
       working_minutes = 600;
       remaining_minutes = 0;
-      percent = none;
+      percent = None;
     }
 
 -- each figure with a digit of its own
@@ -136,22 +135,22 @@ module _ (calendar : Calendar) where
   abbrev book : Book
   book =
       record {
-        data_date = none;
+        data_date = None;
         technique = Units;
         forecast = etc.Remaining;
         calendars = calendar ∷ [];
-        activities = activity none ∷ activity (some 0) ∷ [];
-        resources = record { kind = Labor; prices = record { from = none; per_unit = pos 100 } ∷ [] } ∷ [];
-        assignments = record { activity = 1; resource = some 0; planned = pos 7; actual = pos 2; remaining = pos 3 } ∷ [];
+        activities = activity None ∷ activity (Some 0) ∷ [];
+        resources = record { kind = Labor; prices = record { from = None; per_unit = pos 100 } ∷ [] } ∷ [];
+        assignments = record { activity = 1; resource = Some 0; planned = pos 7; actual = pos 2; remaining = pos 3 } ∷ [];
         expenses = [];
-        baseline = some (record { activity = 1; start = 20000; finish = 20000; minutes = 480; cost = pos 100 } ∷ []);
-        budgets = record { activity = none; original = pos 50; plan = pos 20 ∷ pos 10 ∷ [] } ∷ record { activity = some 1; original = pos 8; plan = [] } ∷ [];
+        baseline = Some (record { activity = 1; start = 20000; finish = 20000; minutes = 480; cost = pos 100 } ∷ []);
+        budgets = record { activity = None; original = pos 50; plan = pos 20 ∷ pos 10 ∷ [] } ∷ record { activity = Some 1; original = pos 8; plan = [] } ∷ [];
         log =
-            record { activity = none; amount = pos 3; status = Approved }
-            ∷ record { activity = none; amount = pos 400; status = Pending }
-            ∷ record { activity = none; amount = pos 5000; status = NotApproved }
-            ∷ record { activity = some 0; amount = pos 60000; status = Approved }
-            ∷ record { activity = some 1; amount = pos 700000; status = Approved }
+            record { activity = None; amount = pos 3; status = Approved }
+            ∷ record { activity = None; amount = pos 400; status = Pending }
+            ∷ record { activity = None; amount = pos 5000; status = NotApproved }
+            ∷ record { activity = Some 0; amount = pos 60000; status = Approved }
+            ∷ record { activity = Some 1; amount = pos 700000; status = Approved }
             ∷ [];
         funds = pos 60 ∷ [];
         periods = 20000 ∷ [];
@@ -168,20 +167,20 @@ module _ (calendar : Calendar) where
   pub both_costs : (cost_of book 0 ≡ cost) × (cost_of book 1 ≡ cost)
   unfolding
       cost_of roll_up brought walk_up walk steps own_cost by_day assignments_of expenses_of assignment_amounts priced price_on price_among spread_over days_of planned_days
-      actual_days days_since remaining_days days_left remaining_from calendar_of or_else saturated_sum parents span keep flat_map zip_with share_of shares_from
+      actual_days days_since remaining_days days_left remaining_from calendar_of saturated_sum parents span keep flat_map zip_with share_of shares_from
       scaled_by in_range saturated
   both_costs = (rw one, rw one)
 
   -- 120 minutes longer than the baseline, and 95 cheaper
-  pub leaf_variance : variance_of book 1 ≡ some (record { start = pos 0; finish = pos 0; duration = negsuc 119; cost = pos 95 })
-  unfolding variance_of last_line last_among or_else variance_from working_between working_up_to span keep
+  pub leaf_variance : variance_of book 1 ≡ Some (record { start = pos 0; finish = pos 0; duration = negsuc 119; cost = pos 95 })
+  unfolding variance_of last_line last_among variance_from working_between working_up_to span keep
   leaf_variance = rw both_costs.1
 
   -- the project's line, where 30 of the 50 are planned, the parent's and the leaf's; for each the leaf's 7 are scheduled
   pub lines : budget_lines book
-      ≡ record { activity = none; depth = 0; original = pos 50; current = pos 53; proposed = pos 453; distributed = pos 60000; planned = pos 30; scheduled = pos 7 }
-      ∷ record { activity = some 0; depth = 1; original = pos 0; current = pos 60000; proposed = pos 60000; distributed = pos 700008; planned = pos 0; scheduled = pos 7 }
-      ∷ record { activity = some 1; depth = 2; original = pos 8; current = pos 700008; proposed = pos 700008; distributed = pos 0; planned = pos 0; scheduled = pos 7 }
+      ≡ record { activity = None; depth = 0; original = pos 50; current = pos 53; proposed = pos 453; distributed = pos 60000; planned = pos 30; scheduled = pos 7 }
+      ∷ record { activity = Some 0; depth = 1; original = pos 0; current = pos 60000; proposed = pos 60000; distributed = pos 700008; planned = pos 0; scheduled = pos 7 }
+      ∷ record { activity = Some 1; depth = 2; original = pos 8; current = pos 700008; proposed = pos 700008; distributed = pos 0; planned = pos 0; scheduled = pos 7 }
       ∷ []
   unfolding
       budget_lines line_for depth_of steps_made walk steps project_cost leaves is_leaf budget_for current_of proposed_of changes change_status_number distributed_of
@@ -205,6 +204,6 @@ module _ (calendar : Calendar) where
   project_earned_lem = rw (both_costs.1, one)
 
   -- the period has the project's planned value, and of the records the leaf's alone, all four kinds of it
-  pub period : period_points book ≡ record { period = 0; finish = 20000; planned = pos 100; earned = some (pos 9); actual = some (pos 4321) } ∷ []
+  pub period : period_points book ≡ record { period = 0; finish = 20000; planned = pos 100; earned = Some (pos 9); actual = Some (pos 4321) } ∷ []
   unfolding period_points period_point to_date is_stored records_to_date actual_in parents is_leaf any span keep saturated
   period = rw project_earned_lem

@@ -1,10 +1,9 @@
 -- An activity's planned value by itself: what the first k of its n listed days get of its budget, where k of them are up to the date.
+use Rattle.std.specs.Prelude.{None, Option, Some, unwrap_or}
 use Prim.Native.Nat.{ℕ, zero, suc, ◌-◌, ◌≤◌, ◌<◌, min}
 use mathlib.Core.Path.{◌≡◌, refl, sym, ap, ◌∙◌}
 use mathlib.Core.Bool.{Bool, true, false, cond}
 use mathlib.Core.List.{List, [], ◌∷◌, zip_with, Memᴰ}
-use mathlib.Core.Option
-use mathlib.Core.Option.{Option, none, some}
 use native.Mathlib.Omega.{arith}
 use native.Mathlib.Decide.{dec_lt}
 use borrow.Author.Tests.{leb-true, leb-false, le-leb, lt-leb}
@@ -136,13 +135,13 @@ unfolding first_line
 found_line P [] e i = tt
 found_line P (l ∷ ls) e i = go (eqb l.activity i) (found_line P ls (λ k d h. e (suc k) d (omega arith)) i)
   where
-    go : (b : Bool) → Given P (first_line ls i) → Given P (cond b (some l) (first_line ls i))
+    go : (b : Bool) → Given P (first_line ls i) → Given P (cond b (Some l) (first_line ls i))
     go true h = e 0 l (omega arith)
     go false h = h
 
-lines_in_range : (n : ℕ) (o : Option (List BaselineLine)) → Given (BaselineInRange n) o → Every (BaselineLineInRange n) (Option.get_or o [])
-lines_in_range n none g k d h = absurd (omega arith)
-lines_in_range n (some ls) g k d h = g.lines k d h
+lines_in_range : (n : ℕ) (o : Option (List BaselineLine)) → Given (BaselineInRange n) o → Every (BaselineLineInRange n) (unwrap_or o [])
+lines_in_range n None g k d h = absurd (omega arith)
+lines_in_range n (Some ls) g k d h = g.lines k d h
 
 module _ (book : Book) (i : ℕ) where
   pub listed_rise : Rising (listed_days book i)
@@ -150,21 +149,21 @@ module _ (book : Book) (i : ℕ) where
   listed_rise = go (line_of book i)
     where
       go : (o : Option BaselineLine) → Rising (days_by book i o)
-      go none = day_list_rises (calendar_of book (activity_at book i)) (activity_at book i).early_start (activity_at book i).early_finish
-      go (some l) = day_list_rises (calendar_of book (activity_at book i)) l.start l.finish
+      go None = day_list_rises (calendar_of book (activity_at book i)) (activity_at book i).early_start (activity_at book i).early_finish
+      go (Some l) = day_list_rises (calendar_of book (activity_at book i)) l.start l.finish
 
   pub listed_some : 0 < length (listed_days book i)
   unfolding listed_days days_by planned_days
   listed_some = go (line_of book i)
     where
       go : (o : Option BaselineLine) → 0 < length (days_by book i o)
-      go none = day_list_some (calendar_of book (activity_at book i)) (activity_at book i).early_start (activity_at book i).early_finish
-      go (some l) = day_list_some (calendar_of book (activity_at book i)) l.start l.finish
+      go None = day_list_some (calendar_of book (activity_at book i)) (activity_at book i).early_start (activity_at book i).early_finish
+      go (Some l) = day_list_some (calendar_of book (activity_at book i)) l.start l.finish
 
   module _ (ok : InRange book) where
     pub line_in_range : Given (BaselineLineInRange (length book.activities)) (line_of book i)
     unfolding line_of
-    line_in_range = found_line (BaselineLineInRange (length book.activities)) (Option.get_or book.baseline []) (lines_in_range (length book.activities) book.baseline ok.baseline) i
+    line_in_range = found_line (BaselineLineInRange (length book.activities)) (unwrap_or book.baseline []) (lines_in_range (length book.activities) book.baseline ok.baseline) i
 
     -- the listed days are dates
     pub listed_dates : i < length book.activities → (d : ℕ) → Memᴰ d (listed_days book i) → IsDate d
@@ -177,16 +176,16 @@ module _ (book : Book) (i : ℕ) where
             record { first = omega (arith, f.first); last = omega (arith, f.last, t.last) }
 
         go : (o : Option BaselineLine) → Given (BaselineLineInRange (length book.activities)) o → Memᴰ d (days_by book i o) → IsDate d
-        go none g m = let a = ok.activities i no_activity h in among (activity_at book i).early_start (activity_at book i).early_finish a.early_start a.early_finish m
-        go (some l) g m = among l.start l.finish g.start g.finish m
+        go None g m = let a = ok.activities i no_activity h in among (activity_at book i).early_start (activity_at book i).early_finish a.early_start a.early_finish m
+        go (Some l) g m = among l.start l.finish g.start g.finish m
 
     pub budget_fits : SFits w64 (budget_of book i)
     unfolding budget_of
     budget_fits = go (line_of book i) line_in_range
       where
         go : (o : Option BaselineLine) → Given (BaselineLineInRange (length book.activities)) o → SFits w64 (budget_by o (cost_of book i).budget)
-        go none g = cost_budget_fits book i
-        go (some l) g = g.cost
+        go None g = cost_budget_fits book i
+        go (Some l) g = g.cost
 
     module _ (date : ℕ) where
       -- as the code computes it

@@ -1,10 +1,10 @@
 -- The price on a day is, of those in effect, the one with the latest day, among equal days the last listed; else the first listed; else 0.
+use Rattle.std.specs.Prelude.{None, Option, Some}
 use mathlib.Core.Path.{◌≡◌, refl, sym, ap, ◌∙◌, subst}
 use mathlib.Core.Logic.{⊎_elim}
 use mathlib.Core.Bool.{Bool, true, false, true≢false, cond, ◌||◌}
 use mathlib.Core.List.Memᴰ
 use mathlib.Core.List.{List, [], ◌∷◌, ◌++◌, map, foldl, Memᴰ}
-use mathlib.Core.Option.{Option, none, some}
 use Prim.Native.Nat.{ℕ}
 use native.Mathlib.Omega.{arith}
 use borrow.Author.Tests.{leb-true, leb-false, le-leb}
@@ -68,19 +68,19 @@ module _ (day : ℕ) (prices : List Price) where
 -- ---- there is one where any is in effect
 
 order_same : (s : Option ℕ) → no_later s s ≡ true
-order_same none = refl
-order_same (some s) = le-leb s s (omega arith)
+order_same None = refl
+order_same (Some s) = le-leb s s (omega arith)
 
 order_total : (s t : Option ℕ) → no_later s t ≡ false → no_later t s ≡ true
-order_total none t e = absurd (true≢false e)
-order_total (some s) none e = refl
-order_total (some s) (some t) e = le-leb t s (omega (arith, leb-false s t e))
+order_total None t e = absurd (true≢false e)
+order_total (Some s) None e = refl
+order_total (Some s) (Some t) e = le-leb t s (omega (arith, leb-false s t e))
 
 order_trans : (r s t : Option ℕ) → no_later r s ≡ true → no_later s t ≡ true → no_later r t ≡ true
-order_trans none s t d e = refl
-order_trans (some r) none t d e = absurd (true≢false (sym d))
-order_trans (some r) (some s) none d e = e
-order_trans (some r) (some s) (some t) d e = le-leb r t (omega (arith, leb-true r s d, leb-true s t e))
+order_trans None s t d e = refl
+order_trans (Some r) None t d e = absurd (true≢false (sym d))
+order_trans (Some r) (Some s) None d e = e
+order_trans (Some r) (Some s) (Some t) d e = le-leb r t (omega (arith, leb-true r s d, leb-true s t e))
 
 -- none in effect is later
 pub none_later : (day : ℕ) (prices : List Price) (l : Latest day prices) (q : Price) → Memᴰ q prices → in_effect day q ≡ true → no_later q.from l.price.from ≡ true
@@ -145,10 +145,10 @@ at day z = record { from = day; per_unit = pos z }
 -- prices, a day, the price
 abbrev cases : List (List Price × ℕ × ℤ)
 cases =
-    (at (some 20001) 5 ∷ at (some 20000) 6 ∷ at (some 20000) 7 ∷ [], 19999, pos 5)
-    ∷ (at (some 20001) 5 ∷ at (some 20000) 6 ∷ at (some 20000) 7 ∷ [], 20000, pos 7)
-    ∷ (at (some 20001) 5 ∷ at (some 20000) 6 ∷ at (some 20000) 7 ∷ [], 20001, pos 5)
-    ∷ (at (some 20000) 5 ∷ at none 6 ∷ [], 20000, pos 5)
+    (at (Some 20001) 5 ∷ at (Some 20000) 6 ∷ at (Some 20000) 7 ∷ [], 19999, pos 5)
+    ∷ (at (Some 20001) 5 ∷ at (Some 20000) 6 ∷ at (Some 20000) 7 ∷ [], 20000, pos 7)
+    ∷ (at (Some 20001) 5 ∷ at (Some 20000) 6 ∷ at (Some 20000) 7 ∷ [], 20001, pos 5)
+    ∷ (at (Some 20000) 5 ∷ at None 6 ∷ [], 20000, pos 5)
     ∷ []
 
 pub price_cases : map (λ (c : List Price × ℕ × ℤ). price_on c.0 c.1) cases ≡ map (λ (c : List Price × ℕ × ℤ). c.2) cases

@@ -1,10 +1,10 @@
 -- Tops and the children of one parent, in index order: the whole branch of each stands before the next one.
+use Rattle.std.specs.Prelude.{None, Some}
 use Prim.Native.Nat.{ℕ, zero, suc, ◌+◌, ◌-◌, ◌≤◌, ◌<◌}
 use mathlib.Core.Path.{◌≡◌, refl, sym, ap, ◌∙◌}
 use mathlib.Core.Logic.{⊎_elim}
 use mathlib.Core.List.Memᴰ
 use mathlib.Core.List.{List, [], ◌∷◌, ◌++◌, flat_map, Memᴰ}
-use mathlib.Core.Option.{none, some, none-ne-some, some-injective}
 use native.Mathlib.Omega.{arith}
 use native.Mathlib.Decide.{dec_lt}
 use lib.ListN.{length}
@@ -15,50 +15,51 @@ use Rattle.model.specs.Outline.{Line, line, is_none, tops, children, branch, bra
 use Rattle.model.proofs.Rising.{keep_rises, rest_rises, least}
 use Rattle.model.proofs.Up.{onward, up, up_last, up_parts, past, up_none, few_levels, made}
 use Rattle.model.proofs.Branches.{child_of, top_of, below_by}
+use Rattle.lists.proofs.Options.{none_ne_some, some_injective}
 
 module _ (ps : Parents) where
   -- a is y, or above it
   abbrev pub Under : ℕ → ℕ → Type 0
-  Under a y = (k : ℕ) × (up ps k (some y) ≡ some a)
+  Under a y = (k : ℕ) × (up ps k (Some y) ≡ Some a)
 
   under_on : (a b y : ℕ) → Under a b → Under b y → Under a y
-  under_on a b y u v = (v.0 + u.0, up_parts ps v.0 u.0 (v.0 + u.0) (some y) refl ∙ ap (up ps u.0) v.1 ∙ u.1)
+  under_on a b y u v = (v.0 + u.0, up_parts ps v.0 u.0 (v.0 + u.0) (Some y) refl ∙ ap (up ps u.0) v.1 ∙ u.1)
 
   -- ---- above an activity that has a top, no two have the same parent
   module _ (t : ℕ) (top : Top ps t) where
     -- the steps to the top are told
-    one_way : (m n i : ℕ) → up ps m (some i) ≡ some t → up ps n (some i) ≡ some t → m ≡ n
+    one_way : (m n i : ℕ) → up ps m (Some i) ≡ Some t → up ps n (Some i) ≡ Some t → m ≡ n
     one_way m n i u v =
         let few = few_levels ps t top in
         sym (made ps t top m (length ps) i u (omega (arith, few m i u))) ∙ made ps t top n (length ps) i v (omega (arith, few n i v))
 
     -- from what is above, the steps that are left
-    left_over : (a y k n : ℕ) → up ps k (some y) ≡ some a → up ps n (some y) ≡ some t → (k ≤ n) × (up ps (n - k) (some a) ≡ some t)
+    left_over : (a y k n : ℕ) → up ps k (Some y) ≡ Some a → up ps n (Some y) ≡ Some t → (k ≤ n) × (up ps (n - k) (Some a) ≡ Some t)
     left_over a y k n u v = go (dec_lt n k)
       where
-        go : Dec (n < k) → (k ≤ n) × (up ps (n - k) (some a) ≡ some t)
-        go (yes h) = absurd (none-ne-some a (sym (past ps (suc n) k (some y) beyond h) ∙ u))
+        go : Dec (n < k) → (k ≤ n) × (up ps (n - k) (Some a) ≡ Some t)
+        go (yes h) = absurd (none_ne_some a (sym (past ps (suc n) k (Some y) beyond h) ∙ u))
           where
-            beyond : up ps (suc n) (some y) ≡ none
-            beyond = up_last ps n (some y) ∙ ap (onward ps) v ∙ top.1
+            beyond : up ps (suc n) (Some y) ≡ None
+            beyond = up_last ps n (Some y) ∙ ap (onward ps) v ∙ top.1
         go (no h) =
             let m : k + (n - k) ≡ n = omega arith in
-            (omega arith, ap (up ps (n - k)) (sym u) ∙ sym (up_parts ps k (n - k) n (some y) m) ∙ v)
+            (omega arith, ap (up ps (n - k)) (sym u) ∙ sym (up_parts ps k (n - k) n (Some y) m) ∙ v)
 
     -- siblings are equally far from the top
-    as_far : (a b m n : ℕ) → parent_of ps a ≡ parent_of ps b → up ps m (some a) ≡ some t → up ps n (some b) ≡ some t → m ≡ n
+    as_far : (a b m n : ℕ) → parent_of ps a ≡ parent_of ps b → up ps m (Some a) ≡ Some t → up ps n (Some b) ≡ Some t → m ≡ n
     unfolding up
     as_far a b zero zero e u v = refl
-    as_far a b zero (suc n) e u v = absurd (none-ne-some t (sym (up_none ps n) ∙ sym (ap (up ps n) (sym e ∙ ap (parent_of ps) (some-injective a t u) ∙ top.1)) ∙ v))
+    as_far a b zero (suc n) e u v = absurd (none_ne_some t (sym (up_none ps n) ∙ sym (ap (up ps n) (sym e ∙ ap (parent_of ps) (some_injective a t u) ∙ top.1)) ∙ v))
     as_far a b (suc m) n e u v = one_way (suc m) n b (ap (up ps m) (sym e) ∙ u) v
 
-    pub one_sibling : (a b y n : ℕ) → up ps n (some y) ≡ some t → parent_of ps a ≡ parent_of ps b → Under a y → Under b y → a ≡ b
+    pub one_sibling : (a b y n : ℕ) → up ps n (Some y) ≡ Some t → parent_of ps a ≡ parent_of ps b → Under a y → Under b y → a ≡ b
     one_sibling a b y n v e p q =
         let x = left_over a y p.0 n p.1 v in
         let z = left_over b y q.0 n q.1 v in
         let far = as_far a b (n - p.0) (n - q.0) e x.1 z.1 in
         let same : p.0 ≡ q.0 = omega (arith, far, x.0, z.0) in
-        some-injective a b (sym p.1 ∙ ap (λ (k : ℕ). up ps k (some y)) same ∙ q.1)
+        some_injective a b (sym p.1 ∙ ap (λ (k : ℕ). up ps k (Some y)) same ∙ q.1)
 
   -- ---- no line before one that is in the branch of a sibling with a lower index
 
@@ -88,20 +89,20 @@ module _ (ps : Parents) where
 
   module _ (t : ℕ) (top : Top ps t) where
     -- lines in the branches of two siblings, the lower one first
-    siblings : (c d n : ℕ) (x y : Line) → parent_of ps c ≡ parent_of ps d → c < d → up ps n (some y.index) ≡ some t → Under c x.index → Under d y.index → Apart x y
+    siblings : (c d n : ℕ) (x y : Line) → parent_of ps c ≡ parent_of ps d → c < d → up ps n (Some y.index) ≡ Some t → Under c x.index → Under d y.index → Apart x y
     unfolding up
     siblings c d n x y e h v (zero, u) q a s l p =
-        let same : a ≡ d = one_sibling t top a d y.index n v (s ∙ ap (parent_of ps) (some-injective x.index c u) ∙ e) p q in
-        omega (arith, same, some-injective x.index c u)
+        let same : a ≡ d = one_sibling t top a d y.index n v (s ∙ ap (parent_of ps) (some_injective x.index c u) ∙ e) p q in
+        omega (arith, same, some_injective x.index c u)
     siblings c d n x y e h v (suc k, u) q a s l p =
         let same : c ≡ d = one_sibling t top c d y.index n v e (under_on c a y.index (suc k, ap (up ps k) s ∙ u) p) q in
         omega (arith, same)
 
     -- what is in a branch has the top of its root
-    topped : (left level r n : ℕ) (y : Line) → up ps n (some r) ≡ some t → (m : Memᴰ y (branch (children ps) left level r)) → (k : ℕ) × (up ps k (some y.index) ≡ some t)
+    topped : (left level r n : ℕ) (y : Line) → up ps n (Some r) ≡ Some t → (m : Memᴰ y (branch (children ps) left level r)) → (k : ℕ) × (up ps k (Some y.index) ≡ Some t)
     topped left level r n y v m = let w = below_by ps left level r y m in under_on t r y.index (n, v) (w.0, w.3)
 
-    pub branch_ordered : (left level r n : ℕ) → up ps n (some r) ≡ some t → Ordered (branch (children ps) left level r)
+    pub branch_ordered : (left level r n : ℕ) → up ps n (Some r) ≡ Some t → Ordered (branch (children ps) left level r)
     unfolding branch children up
     branch_ordered zero level r n v = tt
     branch_ordered (suc left) level r n v = (

@@ -1,9 +1,9 @@
 -- Earned value of small books with and without a budget, under any calendar, by computation: at the last date of all, the status program's where a book has no
 -- data date.
+use Rattle.std.specs.Prelude.{None, Option, Some}
 use Prim.Native.Nat.{ℕ}
 use mathlib.Core.Path.{◌≡◌, refl}
 use mathlib.Core.List.{List, [], ◌∷◌, flat_map, zip_with}
-use mathlib.Core.Option.{Option, none, some, or_else}
 use native.Mathlib.Omega.{arith}
 use lib.Ieee.{of_int, mul, div, lt}
 use lib.IntN.{ℤ, pos, negsuc}
@@ -27,7 +27,7 @@ use Rattle.model.proofs.Cases.{activity, book}
 
 -- in progress on the one day that it was planned for
 abbrev pub started : Option ℕ → Activity
-started parent = activity parent InProgress 20000 20000 (some 20000) none
+started parent = activity parent InProgress 20000 20000 (Some 20000) None
 
 -- planned and paid, with nothing left to pay
 abbrev pub paid : ℕ → ℤ → ℤ → Expense
@@ -42,23 +42,23 @@ module _ (calendar : Calendar) where
   one = day_list_one calendar 20000 20000 (omega arith)
 
   abbrev pub small : List Activity → List Expense → Book
-  small activities expenses = book calendar none activities [] [] expenses
+  small activities expenses = book calendar None activities [] [] expenses
 
   -- `free-repair`: 700 spent without a budget
   abbrev pub free_repair : Book
-  free_repair = small (started none ∷ []) (paid 0 (pos 0) (pos 700) ∷ [])
+  free_repair = small (started None ∷ []) (paid 0 (pos 0) (pos 700) ∷ [])
 
   -- `spent-zero`: neither budget nor spending, nothing of 5, 1 of 20,000
   abbrev pub spent_zero : Book
-  spent_zero = small (started none ∷ started none ∷ started none ∷ []) (paid 0 (pos 0) (pos 0) ∷ paid 1 (pos 5) (pos 0) ∷ paid 2 (pos 20000) (pos 1) ∷ [])
+  spent_zero = small (started None ∷ started None ∷ started None ∷ []) (paid 0 (pos 0) (pos 0) ∷ paid 1 (pos 5) (pos 0) ∷ paid 2 (pos 20000) (pos 1) ∷ [])
 
   -- `total-cancels`: leaves of 5 and −5 under a parent, 3 spent on each
   abbrev pub total_cancels : Book
-  total_cancels = small (started none ∷ started (some 0) ∷ started (some 0) ∷ []) (paid 1 (pos 5) (pos 3) ∷ paid 2 (negsuc 4) (pos 3) ∷ [])
+  total_cancels = small (started None ∷ started (Some 0) ∷ started (Some 0) ∷ []) (paid 1 (pos 5) (pos 3) ∷ paid 2 (negsuc 4) (pos 3) ∷ [])
 
   -- `self-parent`: no leaf, an activity that is its own parent and costs 100
   abbrev pub no_leaf : Book
-  no_leaf = small (activity (some 0) NotStarted 20000 20000 none none ∷ []) (paid 0 (pos 100) (pos 0) ∷ [])
+  no_leaf = small (activity (Some 0) NotStarted 20000 20000 None None ∷ []) (paid 0 (pos 100) (pos 0) ∷ [])
 
   -- `empty`: no activity
   abbrev pub empty : Book
@@ -75,7 +75,7 @@ module _ (calendar : Calendar) where
       × (own_earned no_leaf 47481 0 ≡ no_earned)
   unfolding
       own_earned leaf_earned is_leaf parents any budget_of line_of first_line cost_of own_cost roll_up brought walk_up walk steps by_day assignments_of expenses_of
-      expense_amounts accrued spread_over days_of planned_days actual_days days_since remaining_days remaining_from days_left calendar_of or_else planned_on planned_amounts
+      expense_amounts accrued spread_over days_of planned_days actual_days days_since remaining_days remaining_from days_left calendar_of planned_on planned_amounts
       listed_days days_by saturated_sum saturated span keep flat_map zip_with share_of shares_from performance rounded whole_of of_int mul div lt
   own_figures = (rw one, rw one, rw one, rw one, refl, rw one, rw one, refl)
 

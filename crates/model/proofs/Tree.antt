@@ -1,9 +1,9 @@
 -- A walk steps on the ancestors and on nothing else, without a circle on each once; then every row is its own and each of those below it, once.
+use Rattle.std.specs.Prelude.{None, Option, Some}
 use mathlib.Core.Path.{◌≡◌, refl, sym, ap, ap₂, ◌∙◌, subst}
 use mathlib.Core.Logic.{◌↔◌, ⊎_elim}
 use mathlib.Core.Bool.{Bool, true, false, true≢false, not, cond, ◌||◌, or-true}
 use mathlib.Core.List.{List, [], ◌∷◌, ◌++◌, map, flat_map, foldl, Memᴰ}
-use mathlib.Core.Option.{Option, none, some, none-ne-some, some-injective}
 use Prim.Native.Nat.{ℕ, zero, suc, ◌+◌, ◌-◌, ◌≤◌, ◌<◌}
 use native.Mathlib.Omega.{arith}
 use native.Mathlib.Decide.{dec_lt}
@@ -17,6 +17,7 @@ use Rattle.model.specs.Tree.{Parents, parents, parent_of, indices, names, is_lea
 use Rattle.lists.proofs.Spans.{in_span}
 use Rattle.lists.proofs.Lists.{keep_in, in_keep, keep_none, take_in, any_in, in_any, FirstAt, first_at_lem, at_in}
 use Rattle.model.proofs.Pigeonhole.{at_most}
+use Rattle.lists.proofs.Options.{none_ne_some, some_injective}
 
 -- each activity names its parent
 pub parents_count : (book : Book) → length (parents book) ≡ length book.activities
@@ -31,8 +32,8 @@ module _ (ps : Parents) where
   on_ancestor (suc limit) i p m = go (parent_of ps i) refl m (λ q. on_ancestor limit q p)
     where
       go : (o : Option ℕ) → parent_of ps i ≡ o → Memᴰ p (steps ps (suc limit) o) → ((q : ℕ) → Memᴰ p (steps ps limit (parent_of ps q)) → Ancestor ps p q) → Ancestor ps p i
-      go none e m ih = absurd (mathlib.Core.List.Memᴰ.not-nil m)
-      go (some q) e m ih = ⊎_elim (λ s. Ancestor.parent (e ∙ ap some (sym s))) (λ r. Ancestor.above e (ih q r)) (mathlib.Core.List.Memᴰ.cases_cons m)
+      go None e m ih = absurd (mathlib.Core.List.Memᴰ.not-nil m)
+      go (Some q) e m ih = ⊎_elim (λ s. Ancestor.parent (e ∙ ap Some (sym s))) (λ r. Ancestor.above e (ih q r)) (mathlib.Core.List.Memᴰ.cases_cons m)
 
   -- ---- and on each once
   not_there : (p : ℕ) (xs : List ℕ) → (Memᴰ p xs → ⊥) → keep (eqb p) xs ≡ []
@@ -41,8 +42,8 @@ module _ (ps : Parents) where
   once : NoCircle ps → (limit : ℕ) (o : Option ℕ) (p : ℕ) → Memᴰ p (steps ps limit o) → keep (eqb p) (steps ps limit o) ≡ p ∷ []
   unfolding steps keep
   once a zero o p m = absurd (mathlib.Core.List.Memᴰ.not-nil m)
-  once a (suc limit) none p m = absurd (mathlib.Core.List.Memᴰ.not-nil m)
-  once a (suc limit) (some q) p m = go (eqb p q) refl (once a limit (parent_of ps q) p)
+  once a (suc limit) None p m = absurd (mathlib.Core.List.Memᴰ.not-nil m)
+  once a (suc limit) (Some q) p m = go (eqb p q) refl (once a limit (parent_of ps q) p)
     where
       back : p ≡ q → Memᴰ p (steps ps limit (parent_of ps q)) → ⊥
       back e r = a q (on_ancestor limit q q (mathlib.Core.List.Memᴰ.cast (sym e) r))
@@ -64,31 +65,31 @@ module _ (ps : Parents) where
   unfolding steps
   cut zero k o h = refl
   cut (suc m) zero o h = absurd (omega arith)
-  cut (suc m) (suc k) none h = refl
-  cut (suc m) (suc k) (some p) h = ap (λ (l : List ℕ). p ∷ l) (cut m k (parent_of ps p) (omega arith))
+  cut (suc m) (suc k) None h = refl
+  cut (suc m) (suc k) (Some p) h = ap (λ (l : List ℕ). p ∷ l) (cut m k (parent_of ps p) (omega arith))
 
-  pub has_parent : (x q : ℕ) → parent_of ps x ≡ some q → x < length ps
+  pub has_parent : (x q : ℕ) → parent_of ps x ≡ Some q → x < length ps
   has_parent x q e = go (dec_lt x (length ps))
     where
       go : Dec (x < length ps) → x < length ps
       go (yes h) = h
-      go (no h) = absurd (none-ne-some q (sym (get_or-eq_default ps none {n = x} (omega arith)) ∙ e))
+      go (no h) = absurd (none_ne_some q (sym (get_or-eq_default ps None {n = x} (omega arith)) ∙ e))
 
   -- the places of the walk from i: i itself, then those stepped on
   module _ (k i : ℕ) where
     abbrev place : ℕ → ℕ
     place j = get_or (i ∷ steps ps k (parent_of ps i)) j 0
 
-  next : (k i j : ℕ) → j < length (steps ps k (parent_of ps i)) → parent_of ps (place k i j) ≡ some (place k i (suc j))
+  next : (k i j : ℕ) → j < length (steps ps k (parent_of ps i)) → parent_of ps (place k i j) ≡ Some (place k i (suc j))
   unfolding steps
   next zero i j h = absurd (omega arith)
   next (suc k) i j h = go (parent_of ps i) refl j h (next k)
     where
-      go : (o : Option ℕ) → parent_of ps i ≡ o → (j : ℕ) → j < length (steps ps (suc k) o) → ((q j : ℕ) → j < length (steps ps k (parent_of ps q)) → parent_of ps (place k q j) ≡ some (place k q (suc j)))
-          → parent_of ps (get_or (i ∷ steps ps (suc k) o) j 0) ≡ some (get_or (steps ps (suc k) o) j 0)
-      go none e j h ih = absurd (omega arith)
-      go (some q) e zero h ih = e
-      go (some q) e (suc j) h ih = ih q j (omega arith)
+      go : (o : Option ℕ) → parent_of ps i ≡ o → (j : ℕ) → j < length (steps ps (suc k) o) → ((q j : ℕ) → j < length (steps ps k (parent_of ps q)) → parent_of ps (place k q j) ≡ Some (place k q (suc j)))
+          → parent_of ps (get_or (i ∷ steps ps (suc k) o) j 0) ≡ Some (get_or (steps ps (suc k) o) j 0)
+      go None e j h ih = absurd (omega arith)
+      go (Some q) e zero h ih = e
+      go (Some q) e (suc j) h ih = ih q j (omega arith)
 
   module _ (k i : ℕ) where
     abbrev made : ℕ
@@ -102,7 +103,7 @@ module _ (ps : Parents) where
         ap (place k i) same-a ∙ e ∙ ap (place k i) same-b
     alike (suc t) a b j m e f g l r =
         alike t a b (suc j) (suc m)
-        (some-injective (place k i (suc j)) (place k i (suc m)) (sym (next k i j (omega arith)) ∙ ap (parent_of ps) e ∙ next k i m (omega arith)))
+        (some_injective (place k i (suc j)) (place k i (suc m)) (sym (next k i j (omega arith)) ∙ ap (parent_of ps) e ∙ next k i m (omega arith)))
         (omega arith) (omega arith) l r
 
     -- so what it meets at all it first meets within count steps
@@ -188,9 +189,9 @@ module _ (ps : Parents) where
     roll_up_lem p = ap (foldl add (own p)) (all_brought p (indices ps))
 
 -- ---- a leaf's row is its own, also beside a circle
-named : (ps : Parents) (j p : ℕ) → parent_of ps j ≡ some p → any (names p) ps ≡ true
+named : (ps : Parents) (j p : ℕ) → parent_of ps j ≡ Some p → any (names p) ps ≡ true
 unfolding any
-named [] j p e = absurd (none-ne-some p e)
+named [] j p e = absurd (none_ne_some p e)
 named (o ∷ ps) zero p e = ap (λ (x : Option ℕ). names p x || any (names p) ps) e ∙ ap (λ (b : Bool). b || any (names p) ps) (eq-eqb p p refl)
 named (o ∷ ps) (suc j) p e = ap (λ (b : Bool). names p o || b) (named ps j p e) ∙ or-true (names p o)
 

@@ -1,10 +1,9 @@
 -- The walk over an activity's days on small books, by computation. Then of every book: planned value is what the walk's two counts share out.
-use Rattle.std.specs.Prelude.{Some}
+use Rattle.std.specs.Prelude.{Some, None, Option}
 use Prim.Native.Nat.{ℕ, ◌+◌, ◌-◌, ◌%◌, ◌≤◌}
 use mathlib.Core.Path.{◌≡◌, refl, ap, ◌∙◌}
 use mathlib.Core.Bool.{true}
 use mathlib.Core.List.{List, [], ◌∷◌}
-use mathlib.Core.Option.{Option, none, some}
 use native.Mathlib.Omega.{arith}
 use lib.IntN.{pos}
 use lib.ListN.{length}
@@ -16,7 +15,7 @@ use Rattle.lists.proofs.Spans.{span_length, span_in_lem}
 use Rattle.format.specs.declared.Status.TheVariants.{NotStarted}
 use Rattle.format.specs.declared.EvTechnique.TheVariants.{Physical}
 use Rattle.format.specs.declared.EtcTechnique.TheVariants.{Remaining}
-use Rattle.format.specs.declared.Region.TheVariants.{None}
+use Rattle.format.specs.declared.Region.TheVariants as regions
 use Rattle.format.specs.Book.{Calendar, BaselineLine, Book}
 use Rattle.format.specs.InRange.{InRange}
 use Rattle.dates.specs.declared.week.Weekday.{Weekday}
@@ -37,27 +36,27 @@ abbrev pub counts : ℕ → ℕ → ℕ → DayWalk
 counts listed up_to tested = record { listed = listed; up_to = up_to; tested = tested }
 
 abbrev week : ℕ → Calendar
-week bits = record { week = bits; region = None; holidays = []; extra_days = []; exceptions = [] }
+week bits = record { week = bits; region = regions.None; holidays = []; extra_days = []; exceptions = [] }
 
 -- one activity, from one date to another
 abbrev book_of : List Calendar → Option ℕ → ℕ → ℕ → Option (List BaselineLine) → Book
 book_of calendars calendar start finish baseline =
     record {
-      data_date = none;
+      data_date = None;
       technique = Physical;
       forecast = Remaining;
       calendars = calendars;
       activities = record {
-        parent = none;
+        parent = None;
         calendar = calendar;
         status = NotStarted;
         early_start = start;
         early_finish = finish;
-        actual_start = none;
-        actual_finish = none;
+        actual_start = None;
+        actual_finish = None;
         working_minutes = 0;
         remaining_minutes = 0;
-        percent = none;
+        percent = None;
       } ∷ [];
       resources = [];
       assignments = [];
@@ -72,14 +71,14 @@ book_of calendars calendar start finish baseline =
 
 -- `walk-idle`: no date of the three works, and the first is listed
 abbrev idle : Book
-idle = book_of (week 0 ∷ []) none 20000 20002 none
+idle = book_of (week 0 ∷ []) None 20000 20002 None
 
 -- `walk-baseline`: a Friday to the Tuesday behind it by the first line, one day by the second and by the early dates; Monday to Friday by the activity's own
 -- calendar, every day by the project's
 abbrev baselined : Book
 baselined =
-    book_of (week 127 ∷ week 31 ∷ []) (some 1) 20000 20000
-    (some (record { activity = 0; start = 20000; finish = 20004; minutes = 0; cost = pos 10 } ∷ record { activity = 0; start = 20000; finish = 20000; minutes = 0; cost = pos 10 } ∷ []))
+    book_of (week 127 ∷ week 31 ∷ []) (Some 1) 20000 20000
+    (Some (record { activity = 0; start = 20000; finish = 20004; minutes = 0; cost = pos 10 } ∷ record { activity = 0; start = 20000; finish = 20000; minutes = 0; cost = pos 10 } ∷ []))
 
 walks_idle : (walk_of idle 20000 0 ≡ counts 1 1 3) × (walk_of idle 19999 0 ≡ counts 1 0 3)
 unfolding walk_of listed_days days_by line_of first_line planned_days day_list working_days dates_between calendar_of is_working exception_on usually_works is_region_holiday works_on any span keep
@@ -99,7 +98,7 @@ walks_baselined =
     (rw (d0, d1, d2, d3, d4), rw (d0, d1, d2, d3, d4))
 
 -- `walk-inverted`: the finish is earlier, a day is listed and none tested, under any calendar
-walks_inverted : (c : Calendar) → let book = book_of (c ∷ []) none 20000 19990 none in (walk_of book 20000 0 ≡ counts 1 1 0) × (walk_of book 19999 0 ≡ counts 1 0 0)
+walks_inverted : (c : Calendar) → let book = book_of (c ∷ []) None 20000 19990 None in (walk_of book 20000 0 ≡ counts 1 1 0) × (walk_of book 19999 0 ≡ counts 1 0 0)
 unfolding walk_of listed_days days_by line_of first_line planned_days calendar_of dates_between span keep
 walks_inverted c =
     let alone = day_list_one c 20000 19990 (omega arith) in
@@ -126,15 +125,15 @@ working_to to h =
     ∙ span_length 10957 (to + 1 - 10957)
 
 abbrev ended : Book
-ended = book_of (week 127 ∷ []) none 10957 47481 none
+ended = book_of (week 127 ∷ []) None 10957 47481 None
 
 walks_ended : (walk_of ended 47481 0 ≡ counts 36525 36525 36525) × (walk_of ended 10957 0 ≡ counts 36525 1 36525)
 unfolding walk_of listed_days days_by line_of first_line planned_days calendar_of dates_between
 walks_ended =
     let all : length (day_list (week 127) 10957 47481) ≡ 36525 = ap length (day_list_counted (week 127) 10957 47481 (omega (arith, working_to 47481 (omega arith)))) ∙ working_to 47481 (omega arith) in
-    let some = count_working (week 127) 10957 47481 47481 (omega (arith, working_to 47481 (omega arith))) ∙ working_to 47481 (omega arith) in
+    let every = count_working (week 127) 10957 47481 47481 (omega (arith, working_to 47481 (omega arith))) ∙ working_to 47481 (omega arith) in
     let first = count_working (week 127) 10957 47481 10957 (omega (arith, working_to 47481 (omega arith))) ∙ working_to 10957 (omega arith) in
-    (rw (all, some, span_length 10957 36525), rw (all, first, span_length 10957 36525))
+    (rw (all, every, span_length 10957 36525), rw (all, first, span_length 10957 36525))
 
 -- ---- of every book
 

@@ -1,6 +1,5 @@
 -- The money approved for the project and its parts, how it is handed down and planned, and who funds it. An account, to which money is booked, is an activity, or none for the project.
-use Rattle.std.specs.Prelude.{ℕ, ◌+◌, Bool, not, ◌&&◌, ◌||◌, List, [], ◌∷◌, map, eqb, ℤ, pos, ◌+ℤ◌, length, get_or}
-use Rattle.std.proofs.Math.Option.{Option, none, some}
+use Rattle.std.specs.Prelude.{ℕ, ◌+◌, Bool, not, ◌&&◌, ◌||◌, List, [], ◌∷◌, map, eqb, ℤ, pos, ◌+ℤ◌, length, get_or, None, Option, Some}
 use Rattle.std.specs.Int.{w64}
 use Rattle.integer.specs.Clamp.{clamp}
 use Rattle.integer.specs.Folds.{saturated}
@@ -52,7 +51,7 @@ is_named book account =
 
 -- every parent, and every activity with a budget or a line in the log
 unfoldable pub has_line : Book → ℕ → Bool
-has_line book i = not (is_leaf (parents book) i) || is_named book (some i)
+has_line book i = not (is_leaf (parents book) i) || is_named book (Some i)
 
 unfoldable pub line_accounts : Book → List ℕ
 line_accounts book = keep (has_line book) (indices (parents book))
@@ -72,7 +71,7 @@ pub record BudgetLine : Type 0 where
 -- the current budgets of those right under the account
 unfoldable pub distributed_of : Book → Account → ℤ
 distributed_of book account =
-    saturated w64 (pos 0) (map (λ (i : ℕ). current_of book (some i)) (keep (λ (i : ℕ). names (parent_of (parents book) i) account) (line_accounts book)))
+    saturated w64 (pos 0) (map (λ (i : ℕ). current_of book (Some i)) (keep (λ (i : ℕ). names (parent_of (parents book) i) account) (line_accounts book)))
 
 -- document 01's depth: 1 plus the steps that the walk made, at most as many as there are activities
 unfoldable pub depth_of : Book → ℕ → ℕ
@@ -93,7 +92,7 @@ line_for book account depth scheduled = record {
 -- the project's line, then one for each activity that has one
 unfoldable pub budget_lines : Book → List BudgetLine
 budget_lines book =
-    line_for book none 0 (project_cost book).budget ∷ map (λ (i : ℕ). line_for book (some i) (depth_of book i) (cost_of book i).budget) (line_accounts book)
+    line_for book None 0 (project_cost book).budget ∷ map (λ (i : ℕ). line_for book (Some i) (depth_of book i) (cost_of book i).budget) (line_accounts book)
 
 -- ---- funding
 
@@ -103,4 +102,4 @@ funded book = saturated w64 (pos 0) book.funds
 
 -- what of the project's current budget they do not cover
 unfoldable pub not_covered : Book → ℤ
-not_covered book = less (current_of book none) (funded book)
+not_covered book = less (current_of book None) (funded book)

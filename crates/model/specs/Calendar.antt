@@ -1,8 +1,7 @@
 -- Which dates a calendar works.
-use Rattle.std.specs.Prelude.{ℕ, ◌/◌, ◌%◌, ◌^◌, Bool, false, not, cond, ◌&&◌, ◌||◌, List, [], ◌∷◌, eqb, pos, Option as Optional, Some, None as no_weekday}
-use Rattle.std.proofs.Math.Option.{Option, none, some, get_or}
+use Rattle.std.specs.Prelude.{ℕ, ◌/◌, ◌%◌, ◌^◌, Bool, false, not, cond, ◌&&◌, ◌||◌, List, [], ◌∷◌, eqb, pos, Option as Optional, Some, None as no_weekday, None, Option, unwrap_or}
 use Rattle.format.specs.declared.Region.{Region}
-use Rattle.format.specs.declared.Region.TheVariants.{None, Brazil}
+use Rattle.format.specs.declared.Region.TheVariants as regions
 use Rattle.format.specs.Book.{Exception, Calendar, Activity, Book}
 use Rattle.dates.specs.declared.week.Weekday.{Weekday}
 use Rattle.dates.specs.Week.{index_of}
@@ -17,12 +16,12 @@ is_listed days date = any (eqb date) days
 
 -- what the exceptions say of a date, if anything
 unfoldable pub exception_on : List Exception → ℕ → Option Bool
-exception_on [] date = none
-exception_on (e ∷ es) date = cond (eqb date e.day) (some e.working) (exception_on es date)
+exception_on [] date = None
+exception_on (e ∷ es) date = cond (eqb date e.day) (Some e.working) (exception_on es date)
 
 unfoldable pub is_region_holiday : Region → ℕ → Bool
-is_region_holiday None date = false
-is_region_holiday Brazil date = is_holiday (pos date)
+is_region_holiday regions.None date = false
+is_region_holiday regions.Brazil date = is_holiday (pos date)
 
 -- the weekday's bit of the week, bit 0 Monday
 unfoldable pub works_on : ℕ → Optional Weekday → Bool
@@ -37,8 +36,8 @@ usually_works c date =
 
 -- document 01's `is_working`: the exceptions before all else
 unfoldable pub is_working : Calendar → ℕ → Bool
-is_working c date = get_or (exception_on c.exceptions date) (usually_works c date)
+is_working c date = unwrap_or (exception_on c.exceptions date) (usually_works c date)
 
 -- an activity's calendar: none is calendar 0, the project's
 unfoldable pub calendar_of : Book → Activity → Calendar
-calendar_of book a = calendar_at book (get_or a.calendar 0)
+calendar_of book a = calendar_at book (unwrap_or a.calendar 0)

@@ -1,6 +1,5 @@
 -- Day lists, and an activity's days: planned, actual and remaining.
-use Rattle.std.specs.Prelude.{ℕ, ◌+◌, ◌-◌, min, max, Bool, true, false, cond, List, [], ◌∷◌}
-use Rattle.std.proofs.Math.Option.{Option, none, some, get_or, or_else}
+use Rattle.std.specs.Prelude.{ℕ, ◌+◌, ◌-◌, min, max, Bool, true, false, cond, List, [], ◌∷◌, None, Option, Some, unwrap_or}
 use Rattle.format.specs.declared.Status.{Status}
 use Rattle.format.specs.declared.Status.TheVariants.{NotStarted, InProgress, Completed}
 use Rattle.format.specs.Book.{Calendar, Activity, Book}
@@ -9,6 +8,7 @@ use Rattle.model.specs.declared.Way.TheVariants.{Planned, Actual, Remaining}
 use Rattle.lists.specs.Lists.{span, keep}
 use Rattle.model.specs.Lookup.{activity_at}
 use Rattle.model.specs.Calendar.{is_working, calendar_of}
+use Rattle.std.specs.Option.{option_or}
 
 -- ---- of a calendar
 
@@ -41,21 +41,21 @@ is_started Completed = true
 
 -- the actual finish, else the day before the data date, else the first of the days
 abbrev pub actual_to : Option ℕ → Option ℕ → ℕ → ℕ
-actual_to none none from = from
-actual_to none (some data_date) from = data_date - 1
-actual_to (some finish) data_date from = finish
+actual_to None None from = from
+actual_to None (Some data_date) from = data_date - 1
+actual_to (Some finish) data_date from = finish
 
 unfoldable pub days_since : Book → Activity → Option ℕ → List ℕ
-days_since book a none = []
-days_since book a (some from) = day_list (calendar_of book a) from (actual_to a.actual_finish book.data_date from)
+days_since book a None = []
+days_since book a (Some from) = day_list (calendar_of book a) from (actual_to a.actual_finish book.data_date from)
 
 -- from the actual start, else from the actual finish; none without either, and none where unstarted
 unfoldable pub actual_days : Book → Activity → List ℕ
-actual_days book a = cond (is_started a.status) (days_since book a (or_else a.actual_start a.actual_finish)) []
+actual_days book a = cond (is_started a.status) (days_since book a (option_or a.actual_start a.actual_finish)) []
 
 -- from the data date, but not before the early start nor after the early finish
 unfoldable pub remaining_from : Book → Activity → ℕ
-remaining_from book a = min (max (get_or book.data_date a.early_start) a.early_start) a.early_finish
+remaining_from book a = min (max (unwrap_or book.data_date a.early_start) a.early_start) a.early_finish
 
 -- where unstarted, the planned days
 unfoldable pub days_left : Book → Activity → Status → List ℕ

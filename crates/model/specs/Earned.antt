@@ -1,7 +1,6 @@
 -- Earned value: how much of an activity is done, by the book's technique, and what that is worth of its budget.
-use Rattle.std.specs.Prelude.{ℕ, false, cond, ℤ, pos, negsuc, ◌+ℤ◌, ◌-ℤ◌, Float, unwrap_or, Option as Optional, Some, None}
+use Rattle.std.specs.Prelude.{ℕ, false, cond, ℤ, pos, negsuc, ◌+ℤ◌, ◌-ℤ◌, Float, unwrap_or, Some, None, Option}
 use mathlib.Core.List.{List, [], ◌∷◌, map, flat_map, foldl}
-use Rattle.std.proofs.Math.Option.{Option, none, some, get_or}
 use Rattle.std.specs.Float.{fin}
 use Rattle.std.specs.Int.{w64}
 use Rattle.integer.specs.Clamp.{clamp}
@@ -26,7 +25,7 @@ half = fin false 1 (negsuc 0)
 
 -- the percent complete that was judged; 0 without one
 abbrev pub by_percent : Option ℤ → Float
-by_percent percent = share_of (get_or percent (pos 0))
+by_percent percent = share_of (unwrap_or percent (pos 0))
 
 -- the minutes worked, of all; 0 where there are none
 abbrev pub by_duration : ℕ → ℕ → Float
@@ -113,11 +112,6 @@ earned_value book date = map (earned_at book date) (indices (parents book))
 unfoldable pub project_earned : Book → ℕ → Earned
 project_earned book date = foldl add_earned no_earned (map (earned_at book date) (leaves (parents book)))
 
--- a share that the code gives, as the book's own options are
-abbrev pub as_option : Optional ℤ → Option ℤ
-as_option None = none
-as_option (Some share) = some share
-
 -- document 01's `spent`, at the end of every row: of the row's own figures, and none where its own budget is 0
 abbrev pub spent_in : Earned → Option ℤ
-spent_in e = as_option (spent_of e.actual e.budget)
+spent_in e = spent_of e.actual e.budget

@@ -1,27 +1,26 @@
 -- What a book holds at an index. An accepted book names nothing that it does not hold; what stands for it is here so that every lookup has an answer.
-use Rattle.std.specs.Prelude.{ℕ, [], get_or}
-use Rattle.std.proofs.Math.Option.{none}
+use Rattle.std.specs.Prelude.{ℕ, [], get_or, None}
 use Rattle.format.specs.declared.Status.TheVariants.{NotStarted}
 use Rattle.format.specs.declared.ResourceKind.TheVariants.{Labor}
-use Rattle.format.specs.declared.Region.TheVariants.{None}
+use Rattle.format.specs.declared.Region.TheVariants as regions
 use Rattle.format.specs.Book.{Calendar, Activity, Resource, Book}
 
 abbrev pub no_calendar : Calendar
-no_calendar = record { week = 0; region = None; holidays = []; extra_days = []; exceptions = [] }
+no_calendar = record { week = 0; region = regions.None; holidays = []; extra_days = []; exceptions = [] }
 
 abbrev pub no_activity : Activity
 no_activity =
     record {
-      parent = none;
-      calendar = none;
+      parent = None;
+      calendar = None;
       status = NotStarted;
       early_start = 0;
       early_finish = 0;
-      actual_start = none;
-      actual_finish = none;
+      actual_start = None;
+      actual_finish = None;
       working_minutes = 0;
       remaining_minutes = 0;
-      percent = none;
+      percent = None;
     }
 
 abbrev pub no_resource : Resource

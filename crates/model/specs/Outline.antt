@@ -1,7 +1,6 @@
 -- The outline of the tree of activities: its lines, in their order, and what document 02 promises of them.
-use Rattle.std.specs.Prelude.{ℕ, zero, suc, ◌+◌, ◌≤◌, ◌<◌, ◌≡◌, ◌⊎◌, Bool, true, false, length, get_or}
+use Rattle.std.specs.Prelude.{ℕ, zero, suc, ◌+◌, ◌≤◌, ◌<◌, ◌≡◌, ◌⊎◌, Bool, true, false, length, get_or, None, Option, Some}
 use mathlib.Core.List.{List, [], ◌∷◌, flat_map}
-use Rattle.std.proofs.Math.Option.{Option, none, some}
 use Rattle.lists.specs.Lists.{keep}
 use Rattle.model.specs.Tree.{Parents, parent_of, indices, names, Ancestor, steps_made, step_limit}
 
@@ -16,8 +15,8 @@ abbrev pub line : ℕ → ℕ → Line
 line l i = record { level = l; index = i }
 
 abbrev pub is_none : Option ℕ → Bool
-is_none none = true
-is_none (some p) = false
+is_none None = true
+is_none (Some p) = false
 
 -- document 02's tops: the activities that name no parent, in index order
 unfoldable pub tops : Parents → List ℕ
@@ -48,7 +47,7 @@ line_at lines k = get_or lines k (line 0 0)
 
 -- a top: an activity that names no parent
 abbrev pub Top : Parents → ℕ → Type 0
-Top ps t = (t < length ps) × (parent_of ps t ≡ none)
+Top ps t = (t < length ps) × (parent_of ps t ≡ None)
 
 -- in the branch of an activity: that one, or below it
 abbrev pub InBranch : Parents → ℕ → ℕ → Type 0
@@ -64,7 +63,7 @@ OnCircle ps i = (c : ℕ) × Ancestor ps c c × Ancestor ps c i
 
 -- each parent is an activity, as in every accepted book
 abbrev pub ParentsInside : Parents → Type 0
-ParentsInside ps = (i p : ℕ) → parent_of ps i ≡ some p → p < length ps
+ParentsInside ps = (i p : ℕ) → parent_of ps i ≡ Some p → p < length ps
 
 -- activity i has a line
 abbrev pub Appears : List Line → ℕ → Type 0
@@ -78,7 +77,7 @@ pub record IsOutlineOf (ps : Parents) (lines : List Line) : Type 0 where
   -- one time
   pub once : (j k : ℕ) → j < k → k < length lines → (line_at lines j).index ≡ (line_at lines k).index → ⊥
   -- and after its parent where it has one
-  pub after : (k p : ℕ) → k < length lines → parent_of ps (line_at lines k).index ≡ some p → (j : ℕ) × (j < k) × ((line_at lines j).index ≡ p)
+  pub after : (k p : ℕ) → k < length lines → parent_of ps (line_at lines k).index ≡ Some p → (j : ℕ) × (j < k) × ((line_at lines j).index ≡ p)
   -- nothing else appears
   pub only : (i : ℕ) → Appears lines i → HasTop ps i
   -- so nothing that hangs on a circle, and what does not appear hangs on one

@@ -1,6 +1,5 @@
 -- The financial periods, each by its index: the planned value at its close and, once records of it are stored, the earned value and the actual cost to date.
-use Rattle.std.specs.Prelude.{ℕ, Bool, cond, ◌&&◌, List, map, eqb, leb, ℤ, pos, ◌+ℤ◌, length, get_or}
-use Rattle.std.proofs.Math.Option.{Option, none, some}
+use Rattle.std.specs.Prelude.{ℕ, Bool, cond, ◌&&◌, List, map, eqb, leb, ℤ, pos, ◌+ℤ◌, length, get_or, None, Option, Some}
 use Rattle.std.specs.Int.{w64}
 use Rattle.integer.specs.Clamp.{clamp}
 use Rattle.integer.specs.Folds.{saturated}
@@ -36,7 +35,7 @@ records_to_date book p = keep (λ (r : PeriodRecord). leb (finish_of book r.peri
 
 -- absent where nothing is stored
 unfoldable pub to_date : Book → (PeriodRecord → ℤ) → ℕ → Option ℤ
-to_date book figure p = cond (is_stored book p) (some (saturated w64 (pos 0) (map figure (records_to_date book p)))) none
+to_date book figure p = cond (is_stored book p) (Some (saturated w64 (pos 0) (map figure (records_to_date book p)))) None
 
 unfoldable pub period_point : Book → ℕ → PeriodPoint
 period_point book p = record {

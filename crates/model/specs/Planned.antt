@@ -1,7 +1,6 @@
 -- Planned value: what of the budget at completion is planned to be done by a date.
-use Rattle.std.specs.Prelude.{ℕ, Bool, cond, eqb, leb, ℤ, pos, ◌+ℤ◌}
+use Rattle.std.specs.Prelude.{ℕ, Bool, cond, eqb, leb, ℤ, pos, ◌+ℤ◌, None, Option, Some, unwrap_or}
 use mathlib.Core.List.{List, [], ◌∷◌, flat_map}
-use Rattle.std.proofs.Math.Option.{Option, none, some, get_or}
 use Rattle.std.specs.Int.{w64}
 use Rattle.integer.specs.Clamp.{clamp}
 use Rattle.format.specs.Book.{BaselineLine, Book}
@@ -17,16 +16,16 @@ use Rattle.model.specs.Costs.{cost_of}
 
 -- the first line that names activity i
 unfoldable pub first_line : List BaselineLine → ℕ → Option BaselineLine
-first_line [] i = none
-first_line (l ∷ ls) i = cond (eqb l.activity i) (some l) (first_line ls i)
+first_line [] i = None
+first_line (l ∷ ls) i = cond (eqb l.activity i) (Some l) (first_line ls i)
 
 unfoldable pub line_of : Book → ℕ → Option BaselineLine
-line_of book i = first_line (get_or book.baseline []) i
+line_of book i = first_line (unwrap_or book.baseline []) i
 
 -- from the line of the baseline, else from the cost
 abbrev pub budget_by : Option BaselineLine → ℤ → ℤ
-budget_by none cost = cost
-budget_by (some line) cost = line.cost
+budget_by None cost = cost
+budget_by (Some line) cost = line.cost
 
 -- document 01's budget of an activity: the budget at completion (BAC)
 unfoldable pub budget_of : Book → ℕ → ℤ
@@ -34,8 +33,8 @@ budget_of book i = budget_by (line_of book i) (cost_of book i).budget
 
 -- from the line of the baseline, else from the early dates
 unfoldable pub days_by : Book → ℕ → Option BaselineLine → List ℕ
-days_by book i none = planned_days book (activity_at book i)
-days_by book i (some line) = day_list (calendar_of book (activity_at book i)) line.start line.finish
+days_by book i None = planned_days book (activity_at book i)
+days_by book i (Some line) = day_list (calendar_of book (activity_at book i)) line.start line.finish
 
 -- document 01's listed days: the day list of the span under the activity's calendar
 unfoldable pub listed_days : Book → ℕ → List ℕ

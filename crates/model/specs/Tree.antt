@@ -1,7 +1,6 @@
 -- The tree of activities and the roll-up. The tree is the list of the parents that the activities name.
-use Rattle.std.specs.Prelude.{ℕ, zero, suc, ◌+◌, ◌≡◌, Bool, false, not, eqb, length, get_or}
+use Rattle.std.specs.Prelude.{ℕ, zero, suc, ◌+◌, ◌≡◌, Bool, false, not, eqb, length, get_or, None, Option, Some}
 use mathlib.Core.List.{List, [], ◌∷◌, map, flat_map, foldl}
-use Rattle.std.proofs.Math.Option.{Option, none, some}
 use Rattle.format.specs.Book.{Activity, Book}
 use Rattle.lists.specs.Lists.{any, span, keep}
 
@@ -12,7 +11,7 @@ unfoldable pub parents : Book → Parents
 parents book = map (λ (a : Activity). a.parent) book.activities
 
 abbrev pub parent_of : Parents → ℕ → Option ℕ
-parent_of ps i = get_or ps i none
+parent_of ps i = get_or ps i None
 
 -- the indices of all activities
 abbrev pub indices : Parents → List ℕ
@@ -21,8 +20,8 @@ indices ps = span 0 (length ps)
 -- ---- leaves and ancestors
 
 abbrev pub names : ℕ → Option ℕ → Bool
-names i none = false
-names i (some p) = eqb p i
+names i None = false
+names i (Some p) = eqb p i
 
 -- document 01's leaf: an activity that no other, nor itself, names as parent; any other is a parent
 unfoldable pub is_leaf : Parents → ℕ → Bool
@@ -33,8 +32,8 @@ leaves ps = keep (is_leaf ps) (indices ps)
 
 -- document 01's ancestors of an activity: those reached from it by one or more steps, each to the parent named
 pub data Ancestor (ps : Parents) (p : ℕ) : ℕ → Type 0 where
-  parent : {i : ℕ} → parent_of ps i ≡ some p → Ancestor ps p i
-  above : {i q : ℕ} → parent_of ps i ≡ some q → Ancestor ps p q → Ancestor ps p i
+  parent : {i : ℕ} → parent_of ps i ≡ Some p → Ancestor ps p i
+  above : {i q : ℕ} → parent_of ps i ≡ Some q → Ancestor ps p q → Ancestor ps p i
 
 -- no activity is its own ancestor
 abbrev pub NoCircle : Parents → Type 0
@@ -45,8 +44,8 @@ NoCircle ps = (i : ℕ) → Ancestor ps i i → ⊥
 -- the indices stepped on, at most `limit`: the first, then on from the parent that it names
 unfoldable pub steps : Parents → ℕ → Option ℕ → List ℕ
 steps ps zero to = []
-steps ps (suc limit) none = []
-steps ps (suc limit) (some p) = p ∷ steps ps limit (parent_of ps p)
+steps ps (suc limit) None = []
+steps ps (suc limit) (Some p) = p ∷ steps ps limit (parent_of ps p)
 
 unfoldable pub walk : Parents → ℕ → ℕ → List ℕ
 walk ps limit i = steps ps limit (parent_of ps i)

@@ -1,6 +1,5 @@
 -- The schedule against the baseline: each activity's variances, the baseline's less the schedule's, so that late and dear are below zero.
-use Rattle.std.specs.Prelude.{ℕ, ◌-◌, cond, List, [], ◌∷◌, map, eqb, ℤ, pos, ◌-ℤ◌, length}
-use Rattle.std.proofs.Math.Option.{Option, none, some, get_or, or_else}
+use Rattle.std.specs.Prelude.{ℕ, ◌-◌, cond, List, [], ◌∷◌, map, eqb, ℤ, pos, ◌-ℤ◌, length, None, Option, Some, unwrap_or}
 use Rattle.format.specs.Book.{Calendar, BaselineLine, Book}
 use Rattle.money.specs.Costs.{completion_of}
 use Rattle.lists.specs.Lists.{span, keep}
@@ -9,6 +8,7 @@ use Rattle.model.specs.Calendar.{is_working, calendar_of}
 use Rattle.model.specs.Tree.{parents, indices}
 use Rattle.model.specs.Costs.{cost_of}
 use Rattle.model.specs.Forecast.{less}
+use Rattle.std.specs.Option.{option_or}
 
 -- start and finish in working days, duration in working minutes, cost in hundredths
 pub record Variance : Type 0 where
@@ -27,12 +27,12 @@ working_between c from to = pos (working_up_to c from to) -ℤ pos (working_up_t
 
 -- the last line that names activity i
 unfoldable pub last_among : List BaselineLine → ℕ → Option BaselineLine
-last_among [] i = none
-last_among (l ∷ ls) i = or_else (last_among ls i) (cond (eqb l.activity i) (some l) none)
+last_among [] i = None
+last_among (l ∷ ls) i = option_or (last_among ls i) (cond (eqb l.activity i) (Some l) None)
 
 -- document 01's line that counts here: the last of an activity
 unfoldable pub last_line : Book → ℕ → Option BaselineLine
-last_line book i = last_among (get_or book.baseline []) i
+last_line book i = last_among (unwrap_or book.baseline []) i
 
 unfoldable pub variance_from : Book → ℕ → BaselineLine → Variance
 variance_from book i line = record {
@@ -43,8 +43,8 @@ variance_from book i line = record {
 }
 
 abbrev pub variance_by : Book → ℕ → Option BaselineLine → Option Variance
-variance_by book i none = none
-variance_by book i (some line) = some (variance_from book i line)
+variance_by book i None = None
+variance_by book i (Some line) = Some (variance_from book i line)
 
 -- none for an activity that the baseline has no line of
 unfoldable pub variance_of : Book → ℕ → Option Variance

@@ -1,6 +1,5 @@
 -- The walk over a leaf's days: on one pass over the dates from its start to its finish, the two counts that planned value needs, and how many dates are tested.
-use Rattle.std.specs.Prelude.{ℕ, List, leb, length}
-use Rattle.std.proofs.Math.Option.{Option, none, some}
+use Rattle.std.specs.Prelude.{ℕ, List, leb, length, None, Option, Some}
 use Rattle.format.specs.Book.{Activity, BaselineLine, Book}
 use Rattle.lists.specs.Lists.{keep}
 use Rattle.model.specs.declared.DayWalk.{DayWalk}
@@ -14,8 +13,8 @@ count_up_to date days = length (keep (λ d. leb d date) days)
 
 -- how many dates there are from start to finish, both included; none if the finish is earlier: of the line of the baseline, else of the early dates
 abbrev pub dates_by : Activity → Option BaselineLine → ℕ
-dates_by a none = length (dates_between a.early_start a.early_finish)
-dates_by a (some line) = length (dates_between line.start line.finish)
+dates_by a None = length (dates_between a.early_start a.early_finish)
+dates_by a (Some line) = length (dates_between line.start line.finish)
 
 -- of listed days at a date: how many there are, how many are up to the date, and how many dates were tested for them
 abbrev pub counts_of : ℕ → List ℕ → ℕ → DayWalk

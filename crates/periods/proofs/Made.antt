@@ -1,11 +1,10 @@
 -- From the closes, the planned values and the figures of the records to the rows of the periods.
+use Rattle.std.specs.Prelude.{None, Some, option_map}
 use Prim.Native.Nat.{ℕ, zero, suc, ◌+◌, ◌*◌, ◌<◌}
 use native.Mathlib.Omega.{arith}
 use mathlib.Core.Path.{◌≡◌, refl, sym, ap, ◌∙◌, subst}
 use mathlib.Core.Bool.{Bool, true, false, cond, ◌&&◌, ◌||◌}
 use mathlib.Core.List.{List, [], ◌∷◌, map, flat_map, foldl, Memᴰ}
-use mathlib.Core.Option
-use mathlib.Core.Option.{none, some}
 use lib.Dec.{eqb, leb}
 use lib.IntN.{ℤ, pos, ◌+ℤ◌}
 use lib.ListN.{length, get_or, take, replicate, length-map, length-append}
@@ -116,7 +115,7 @@ module _ (b : Book) (ok : InRange b) (marks : List ℕ) (m : MarksLeaves marks (
 
         go :
             (s : Bool) → point_row p (finish_of b p) (project_earned b (finish_of b p)).planned (cond s (pos 1) (pos 0)) worth spent
-            ≡ period_row record { period = p; finish = finish_of b p; planned = (project_earned b (finish_of b p)).planned; earned = cond s (some worth) none; actual = cond s (some spent) none }
+            ≡ period_row record { period = p; finish = finish_of b p; planned = (project_earned b (finish_of b p)).planned; earned = cond s (Some worth) None; actual = cond s (Some spent) None }
         go true = refl
         go false = refl
 
@@ -154,8 +153,8 @@ module _ (b : Book) (ok : InRange b) (marks : List ℕ) (m : MarksLeaves marks (
 period_wide : (p : PeriodPoint) → length (period_row p) ≡ 7
 unfolding period_row
 period_wide p =
-    let earned = Option.map bits p.earned in
-    let actual = Option.map bits p.actual in
+    let earned = option_map bits p.earned in
+    let actual = option_map bits p.actual in
     omega (arith, length-append (optional earned) (optional actual), optional_two earned, optional_two actual)
 
 module _ {s : List ℕ} {opened : Opened} (o : IsOpened s opened) where

@@ -93,11 +93,11 @@ pub fn period_points_of(book: &[u8], opened: Opened, out: &mut [u64]) -> Reply
 {
     let n = opened.ledger.periods.count as usize * 7;
     if out.len() < n {
-        return Reply::Refused(TOO_SHORT, 0);
+        return Err(TOO_SHORT);
     }
     if n == 0 {
-        return Reply::Accepted(0);
+        return Ok(0);
     }
     put_periods(book, opened, &mut out[..n]);
-    Reply::Accepted(opened.ledger.periods.count)
+    Ok(opened.ledger.periods.count)
 }

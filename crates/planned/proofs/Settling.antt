@@ -1,9 +1,9 @@
 -- Planned value of the activities of a book, by a table of the days of its calendars.
+use Rattle.std.specs.Prelude.{None, Option, Some}
 use Prim.Native.Nat.{ℕ, ◌*◌, ◌<◌}
 use mathlib.Core.Path.{◌≡◌, refl, sym, ap, ap₂, ◌∙◌}
 use mathlib.Core.Bool.{Bool, true, false, cond}
 use mathlib.Core.List.{List, map}
-use mathlib.Core.Option.{Option, none, some}
 use native.Mathlib.Omega.{arith}
 use lib.IntN.{ℤ, pos}
 use lib.ListN.{length}
@@ -63,8 +63,8 @@ module _ {b : Book} {known : Stretch} {listed : List ℕ} {budgets : List ℤ} {
     dates_listed = rw (listed_first_lem b d.spans i h, listed_last_lem b d.spans i h) (go (line_of b i))
       where
         go : (o : Option BaselineLine) → let a = activity_at b i in length (dates_between (by_line start_of o a.early_start) (by_line finish_of o a.early_finish)) ≡ dates_by a o
-        go none = refl
-        go (some l) = refl
+        go None = refl
+        go (Some l) = refl
 
     -- the walk over them is document 02's
     pub one_walked : walked_in (number_at listed i * dates_of known) known.from days date (first_at listed i) (last_at listed i) ≡ walk_of b date i

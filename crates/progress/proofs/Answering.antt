@@ -1,4 +1,5 @@
 -- The rows of earned value and of performance: what is answered with them.
+use Rattle.std.specs.Prelude.{Ok}
 use Prim.Native.Nat.{ℕ, ◌≤◌, ◌<◌}
 use native.Mathlib.Omega.{arith}
 use mathlib.Core.Path.{◌≡◌, refl, ap, sym, ◌∙◌}
@@ -15,7 +16,6 @@ use Rattle.tree.specs.Tables.{own_values, rolled_values}
 use Rattle.tree.proofs.Figured.{values_rolled}
 use Rattle.spans.specs.Columns.{parent_number}
 use Rattle.activities.proofs.Leaves.{parents_are}
-use Rattle.answers.specs.declared.Reply.TheVariants.{Accepted}
 use Rattle.answers.specs.Rows.{earned_width, earned_row, project_earned_rows, performance_rows}
 use Rattle.answers.specs.Calls.{Puts}
 use Rattle.answers.proofs.SizedEarned.{row_wide, project_sized}
@@ -29,7 +29,7 @@ values_from b date r few {ps = ps} named made rolled = rolled ∙ ap (rolled_row
 
 -- a row put at the front
 pub project_put :
-    (date : ℕ) (b : Book) (out : List ℕ) → earned_width ≤ length out → Puts (project_earned_rows date b) out (Accepted 1) (sets out 0 (earned_row (project_earned b date)))
+    (date : ℕ) (b : Book) (out : List ℕ) → earned_width ≤ length out → Puts (project_earned_rows date b) out (Ok 1) (sets out 0 (earned_row (project_earned b date)))
 unfolding project_earned_rows
 project_put date b out h =
     let row = earned_row (project_earned b date) in
@@ -40,7 +40,7 @@ pub performance_sized : (i : ℕ) (b : Book) → Sized (performance_rows i b) 1 
 unfolding performance_rows
 performance_sized i b = one_sized (bits_of (performance b i) ∷ []) 1 refl
 
-pub performance_put : (i : ℕ) (b : Book) (out : List ℕ) → 0 < length out → (x : ℕ) → x ≡ bits_of (performance b i) → Puts (performance_rows i b) out (Accepted 1) (set out 0 x)
+pub performance_put : (i : ℕ) (b : Book) (out : List ℕ) → 0 < length out → (x : ℕ) → x ≡ bits_of (performance b i) → Puts (performance_rows i b) out (Ok 1) (set out 0 x)
 unfolding performance_rows
 performance_put i b out h x e =
     rw (set_split out 0 x h) (in_front (performance_rows i b) out (performance_sized i b) h (x ∷ []) (ap (λ (n : ℕ). n ∷ []) e ∙ sym (one_numbers (bits_of (performance b i) ∷ []))))

@@ -62,8 +62,8 @@ pub fn performance_of(book: &[u8], opened: Opened, activity: u64, out: &mut [u64
     ensures { Puts (performance_rows activity (content book.now)) out.old result out.new }
 {
     if out.len() < 1 {
-        return Reply::Refused(TOO_SHORT, 0);
+        return Err(TOO_SHORT);
     }
     out[0] = bits(performance(book, opened, activity));
-    Reply::Accepted(1)
+    Ok(1)
 }

@@ -81,8 +81,8 @@ pub fn project_earned_of(book: &[u8], opened: Opened, date: u64, out: &mut [u64]
     ensures { Puts (project_earned_rows date (content book.now)) out.old result out.new }
 {
     if out.len() < EARNED_WIDTH {
-        return Reply::Refused(TOO_SHORT, 0);
+        return Err(TOO_SHORT);
     }
     put_earned(project_earned(book, opened, date), 0, out);
-    Reply::Accepted(1)
+    Ok(1)
 }

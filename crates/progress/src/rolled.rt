@@ -137,17 +137,17 @@ pub fn earned_value_of(book: &[u8], opened: Opened, date: u64, out: &mut [u64]) 
     let count = opened.plan.activities.count as usize;
     let n = count * EARNED_WIDTH;
     if out.len() < n {
-        return Reply::Refused(TOO_SHORT, 0);
+        return Err(TOO_SHORT);
     }
     if count == 0 {
-        return Reply::Accepted(0);
+        return Ok(0);
     }
     if count <= FEW {
         fill_sized::<160>(book, opened, date, &mut out[..n]);
-        return Reply::Accepted(count as u64);
+        return Ok(count as u64);
     }
     fill_sized::<2500>(book, opened, date, &mut out[..n]);
-    Reply::Accepted(count as u64)
+    Ok(count as u64)
 }
 
 // The figures of an activity, from a table of the rolled figures.

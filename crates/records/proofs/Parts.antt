@@ -1,4 +1,5 @@
 -- What a codec reads, from what its parts read.
+use Rattle.format.specs.declared.Reason.{Reason}
 use Prim.Native.Nat.{ℕ, ◌^◌, ◌<◌}
 use mathlib.Core.Path.{◌≡◌, ap}
 use mathlib.Core.Bool.{Bool}
@@ -7,12 +8,12 @@ use lib.IntN.{ℤ}
 use lib.Signed.{mag}
 use mir.Syntax.{w64}
 use mir.Val.{to_z, of_z}
-use Rattle.format.specs.declared.Pos.{Pos}
 use Rattle.format.specs.Reader.{place_of, both, mapped, tested, passing}
 use Rattle.format.specs.Field.{U}
 use Rattle.format.specs.Codec.{Codec, field, ◌then◌, ◌&◌, iso, test}
 use Rattle.format.specs.Enumeration.{Keeps, enumeration}
 use Rattle.fields.proofs.Signed.{kept}
+use Rattle.format.specs.Position.{Pos}
 
 -- one, then another
 pub both_read :
@@ -43,14 +44,14 @@ amount_read {z} p h = rw (kept z h) p
 
 -- what a test may refuse
 pub test_read :
-    {A : Type 0} (d : A) (t : A → Bool) (code : ℕ) (a : Codec A) (s : List ℕ) (c : Pos) {mid : Pos} {x : A} {r : A × Pos} →
+    {A : Type 0} (d : A) (t : A → Bool) (code : Reason) (a : Codec A) (s : List ℕ) (c : Pos) {mid : Pos} {x : A} {r : A × Pos} →
     (x, mid) ≡ a.read s c → r ≡ tested d code (place_of c) (t x) (x, mid) → r ≡ (test d t code a).read s c
 unfolding test passing
 test_read d t code a s c p e = rw (← p) e
 
 -- a test whose outcome is known before
 pub test_known :
-    {A : Type 0} (d : A) (t : A → Bool) (code : ℕ) (a : Codec A) (s : List ℕ) (c : Pos) {b : Bool} → b ≡ t (a.read s c).0 →
+    {A : Type 0} (d : A) (t : A → Bool) (code : Reason) (a : Codec A) (s : List ℕ) (c : Pos) {b : Bool} → b ≡ t (a.read s c).0 →
     (test d (λ x. b) code a).read s c ≡ (test d t code a).read s c
 unfolding test passing
 test_known d t code a s c h = rw h

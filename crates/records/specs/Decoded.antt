@@ -1,6 +1,5 @@
 -- The records of the book's definition that the code's structs hold.
 use Rattle.format.specs.Book as book
-use Rattle.fields.specs.Optional.{number_option, amount_option}
 use Rattle.records.specs.declared.activities.Activity.{Activity}
 use Rattle.records.specs.declared.activities.Assignment.{Assignment}
 use Rattle.records.specs.declared.activities.Expense.{Expense}
@@ -16,26 +15,26 @@ exception_of e = record { day = e.day; working = e.working }
 unfoldable pub activity_of : Activity → book.Activity
 activity_of a =
     record {
-      parent = number_option a.parent;
-      calendar = number_option a.calendar;
+      parent = a.parent;
+      calendar = a.calendar;
       status = a.status;
       early_start = a.start;
       early_finish = a.finish;
-      actual_start = number_option a.started;
-      actual_finish = number_option a.finished;
+      actual_start = a.started;
+      actual_finish = a.finished;
       working_minutes = a.working;
       remaining_minutes = a.remaining;
-      percent = amount_option a.percent;
+      percent = a.percent;
     }
 
 unfoldable pub price_of : Price → book.Price
-price_of p = record { from = number_option p.from; per_unit = p.amount }
+price_of p = record { from = p.from; per_unit = p.amount }
 
 unfoldable pub assignment_of : Assignment → book.Assignment
 assignment_of a =
     record {
       activity = a.activity;
-      resource = number_option a.resource;
+      resource = a.resource;
       planned = a.planned;
       actual = a.actual;
       remaining = a.remaining;
@@ -55,7 +54,7 @@ unfoldable pub baseline_line_of : BaselineLine → book.BaselineLine
 baseline_line_of l = record { activity = l.activity; start = l.start; finish = l.finish; minutes = l.minutes; cost = l.cost }
 
 unfoldable pub budget_change_of : BudgetChange → book.BudgetChange
-budget_change_of b = record { activity = number_option b.activity; amount = b.amount; status = b.status }
+budget_change_of b = record { activity = b.activity; amount = b.amount; status = b.status }
 
 unfoldable pub period_record_of : PeriodRecord → book.PeriodRecord
 period_record_of r =

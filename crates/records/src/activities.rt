@@ -7,29 +7,28 @@ use fields::enumerations::{accrual_of, status_of};
 use fields::kinds::{
     amount, date, field, index, minutes, optional_amount, optional_date, optional_index,
 };
-use fields::{OptionalAmount, OptionalNumber};
-use format::{Accrual, OUT_OF_RANGE, Pos, Status};
+use format::{Accrual, Pos, Reason, Status};
 
 // Early dates are `start` and `finish`, actual ones `started` and `finished`; `working` and `remaining` are minutes.
 #[derive(Clone, Copy)]
 pub struct Activity {
-    pub parent: OptionalNumber,
-    pub calendar: OptionalNumber,
+    pub parent: Option<u64>,
+    pub calendar: Option<u64>,
     pub status: Status,
     pub start: u64,
     pub finish: u64,
-    pub started: OptionalNumber,
-    pub finished: OptionalNumber,
+    pub started: Option<u64>,
+    pub finished: Option<u64>,
     pub working: u64,
     pub remaining: u64,
-    pub percent: OptionalAmount,
+    pub percent: Option<i64>,
     pub next: Pos,
 }
 
 #[derive(Clone, Copy)]
 pub struct Assignment {
     pub activity: u64,
-    pub resource: OptionalNumber,
+    pub resource: Option<u64>,
     pub planned: i64,
     pub actual: i64,
     pub remaining: i64,
@@ -63,7 +62,7 @@ pub fn read_activity(book: &[u8], at: Pos, calendars: u64, activities: u64) -> A
 {
     let parent = optional_index(book, at, activities);
     let calendar = optional_index(book, parent.next, calendars);
-    let status = field(book, calendar.next, 0, 3, OUT_OF_RANGE);
+    let status = field(book, calendar.next, 0, 3, Reason::OutOfRange);
     let start = date(book, status.next);
     let finish = date(book, start.next);
     let started = optional_date(book, finish.next);
@@ -112,7 +111,7 @@ pub fn read_expense(book: &[u8], at: Pos, activities: u64) -> Expense
     ensures { (expense_of result, result.next) ≡ (layout.expense activities).read book.now at }
 {
     let activity = index(book, at, activities);
-    let accrual = field(book, activity.next, 0, 3, OUT_OF_RANGE);
+    let accrual = field(book, activity.next, 0, 3, Reason::OutOfRange);
     let planned = amount(book, accrual.next);
     let actual = amount(book, planned.next);
     let remaining = amount(book, actual.next);

@@ -9,7 +9,7 @@ ghost use Rattle.records.specs.Decoded.{exception_of};
 
 use fields::enumerations::{region_of, working_of};
 use fields::kinds::{field, rising};
-use format::{OUT_OF_RANGE, Pos, Region};
+use format::{Pos, Reason, Region};
 
 // What leads a calendar. Its days follow.
 #[derive(Clone, Copy)]
@@ -29,8 +29,8 @@ pub struct Exception {
 pub fn read_calendar_head(book: &[u8], at: Pos) -> CalendarHead
     ensures { ((result.week, result.region), result.next) ≡ (codec.field (U 0 127) & region).read book.now at }
 {
-    let week = field(book, at, 0, 128, OUT_OF_RANGE);
-    let region = field(book, week.next, 0, 2, OUT_OF_RANGE);
+    let week = field(book, at, 0, 128, Reason::OutOfRange);
+    let region = field(book, week.next, 0, 2, Reason::OutOfRange);
     CalendarHead {
         week: week.value,
         region: region_of(region.value),
@@ -43,7 +43,7 @@ pub fn read_exception(book: &[u8], at: Pos, before: u64) -> Exception
     ensures { (exception_of result, result.next) ≡ (layout.exception before).read book.now at }
 {
     let day = rising(book, at, before);
-    let working = field(book, day.next, 0, 2, OUT_OF_RANGE);
+    let working = field(book, day.next, 0, 2, Reason::OutOfRange);
     Exception {
         day: day.value,
         working: working_of(working.value),

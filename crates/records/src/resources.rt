@@ -4,15 +4,15 @@ ghost use Rattle.format.specs.Enumeration.{resource_kind};
 ghost use Rattle.format.specs.Format as layout;
 ghost use Rattle.records.specs.Decoded.{price_of};
 
+use fields::Read;
 use fields::enumerations::resource_kind_of;
 use fields::kinds::{amount, field, optional_date};
-use fields::{OptionalNumber, Read};
-use format::{OUT_OF_RANGE, Pos, ResourceKind};
+use format::{Pos, Reason, ResourceKind};
 
 // A price per unit and the day that it holds from.
 #[derive(Clone, Copy)]
 pub struct Price {
-    pub from: OptionalNumber,
+    pub from: Option<u64>,
     pub amount: i64,
     pub next: Pos,
 }
@@ -21,7 +21,7 @@ pub struct Price {
 pub fn read_resource_head(book: &[u8], at: Pos) -> Read<ResourceKind>
     ensures { (result.value, result.next) ≡ resource_kind.read book.now at }
 {
-    let kind = field(book, at, 0, 3, OUT_OF_RANGE);
+    let kind = field(book, at, 0, 3, Reason::OutOfRange);
     Read {
         value: resource_kind_of(kind.value),
         next: kind.next,

@@ -1,7 +1,6 @@
 -- The thirteen reference cases of document 01, a table under one theorem: for each, what the definition gives and what it must give.
 -- A value that may be absent is no number or one.
 use Rattle.std.specs.Prelude.{ℕ, ◌+◌, ◌≡◌, List, [], ◌∷◌, map, ℤ, pos, neg_ℤ, Option, Some, None}
-use Rattle.std.proofs.Math.Option.{none, some}
 use Rattle.std.specs.Float.Ieee.{of_int, mul, div, lt}
 use Rattle.money.specs.Shares.{share_of as shareOfDay, shares_from, spread}
 use Rattle.money.specs.Scale.{in_range, scaled_by, priced_at}
@@ -35,10 +34,10 @@ alone z = z ∷ []
 
 -- a price without a day, and one from a day on
 abbrev pub undated : ℕ → Price
-undated z = record { from = none; per_unit = pos z }
+undated z = record { from = None; per_unit = pos z }
 
 abbrev pub since : ℕ → ℕ → Price
-since day z = record { from = some day; per_unit = pos z }
+since day z = record { from = Some day; per_unit = pos z }
 
 -- undated 100, then 200 and 300 from 20,000
 abbrev pub three_prices : List Price

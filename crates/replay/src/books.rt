@@ -1,14 +1,12 @@
 // The verdict on a book: `verdict BOOK = NUMBER PLACE`.
-use format::Answer as Verdict;
 use vectors::answer::{Answer, two};
 use vectors::{Outcome, hex};
 
 // The number and the place of the verdict on a book.
 fn verdict(book: &[u8]) -> Answer {
-    let v = book::layout::judge(book);
-    match v {
-        Verdict::Accepted => two(0, 0),
-        Verdict::Refused(number, place) => two(number, place as u64),
+    match book::layout::judge(book) {
+        Ok(()) => two(0, 0),
+        Err(refusal) => two(u64::from(refusal.reason), refusal.place as u64),
     }
 }
 

@@ -33,22 +33,22 @@ fn call_of_one(place: u64, book: &[u8], value: u64, out: &mut [u64]) -> Reply {
 }
 
 // The same by one that is asked with two dates, or with an activity and a date.
-fn call_of_two(place: u64, book: &[u8], first: u64, second: u64, out: &mut [u64]) -> Reply {
+fn call_of_two(place: u64, book: &[u8], first: u64, second: u64, out: &mut [u64]) -> Option<Reply> {
     match place {
-        14 => engine::spending(book, first, second, out),
-        15 => engine::planned_curve(book, first, second, out),
-        16 => engine::indices(book, first, second, out),
-        _ => Reply::Refused(NO_CALL, 0),
+        14 => Some(engine::spending(book, first, second, out)),
+        15 => Some(engine::planned_curve(book, first, second, out)),
+        16 => Some(engine::indices(book, first, second, out)),
+        _ => None,
     }
 }
 
-// What the call at that place of the list answers, asked with as many of the two values as it takes.
-fn call(place: u64, book: &[u8], first: u64, second: u64, out: &mut [u64]) -> Reply {
+// What the call at that place of the list answers, asked with as many of the two values as it takes; nothing where there is no such call.
+fn call(place: u64, book: &[u8], first: u64, second: u64, out: &mut [u64]) -> Option<Reply> {
     if place < 9 {
-        return plain_call(place, book, out);
+        return Some(plain_call(place, book, out));
     }
     if place < 14 {
-        return call_of_one(place, book, first, out);
+        return Some(call_of_one(place, book, first, out));
     }
     call_of_two(place, book, first, second, out)
 }
@@ -58,8 +58,17 @@ fn fills(line: &[u8], place: u64, book: &[u8], asked: Asked, out: &mut [u64]) ->
     lent::lend(out);
     let reply = call(place, book, asked.first, asked.second, out);
     match reply {
-        Reply::Accepted(rows) => lent::says(line, asked.next, 0, rows, out),
-        Reply::Refused(number, at) => lent::says(line, asked.next, number, at as u64, out),
+        None => lent::says(line, asked.next, NO_CALL, 0, out),
+        Some(Ok(rows)) => lent::says(line, asked.next, 0, rows, out),
+        Some(Err(refusal)) => {
+            lent::says(
+                line,
+                asked.next,
+                u64::from(refusal.reason),
+                refusal.place as u64,
+                out,
+            )
+        }
     }
 }
 

@@ -1,14 +1,12 @@
 -- What the calls of the status and of the outline answer, and what they leave in lent memory. Assumes nothing.
+use Rattle.std.specs.Prelude.{None, Option, Some, Err, Ok}
 use Prim.Native.Nat.{ℕ, ◌+◌, ◌*◌, ◌-◌, ◌≤◌}
 use native.Mathlib.Omega.{arith}
 use mathlib.Core.Path.{◌≡◌, refl, sym, ap, ap₂, ◌∙◌}
 use mathlib.Core.Bool.{true, ◌&&◌}
 use mathlib.Core.List.{List, [], ◌∷◌, ◌++◌, append-nil}
-use mathlib.Core.Option.{Option, none, some}
 use borrow.Author.Tests.{le-leb}
 use lib.ListN.{length, drop, drop_of_length-le}
-use Rattle.format.specs.declared.Pos.{Pos}
-use Rattle.format.specs.declared.Pos.TheVariants as place
 use Rattle.format.specs.Bytes.{Bytes}
 use Rattle.format.specs.Inverse.{Given}
 use Rattle.format.specs.InRange.{IsDate}
@@ -23,8 +21,6 @@ use Rattle.model.specs.Planned.{planned_curve_between}
 use Rattle.model.specs.Earned.{project_earned}
 use Rattle.model.proofs.Tree.{parents_count}
 use Rattle.model.proofs.Outline.{outline_is}
-use Rattle.answers.specs.declared.Reply.{Reply}
-use Rattle.answers.specs.declared.Reply.TheVariants.{Accepted, Refused}
 use Rattle.answers.specs.Rows.{Rows, point_row, earned_width, earned_row, earned_value_rows, project_earned_rows, outline_width, outline_rows, planned_curve_rows}
 use Rattle.answers.specs.Calls.{Condition, is_date, checked, fitted, reply_at, reply_number, reply_place, reply, Answers}
 use Rattle.answers.proofs.Replies.{met, none_asked}
@@ -38,37 +34,40 @@ use Rattle.report.specs.Status.{asked_at, EarnedIn, curve_text}
 use Rattle.report.specs.Outline.{listed_text, outlined_at, outline_text}
 use Rattle.report.proofs.Rows.{activities_in, outline_in, points_in_lem}
 use Rattle.report.proofs.Stretches.{few_points}
+use Rattle.format.specs.Position.{Pos, refused}
+use Rattle.answers.specs.Reply.{Reply}
+use Rattle.format.specs.declared.Refusal.{Refusal}
 
 is_date_lem : (d : ℕ) → 10957 ≤ d → d ≤ 47481 → is_date d ≡ true
 unfolding is_date
 is_date_lem d h l = ap₂ ◌&&◌ (le-leb 10957 d h) (le-leb d 47481 l)
 
 asked_is_date : (o : Option ℕ) → Given IsDate o → is_date (asked_at o) ≡ true
-asked_is_date none r = is_date_lem 47481 (omega arith) (omega arith)
-asked_is_date (some d) r = is_date_lem d r.first r.last
+asked_is_date None r = is_date_lem 47481 (omega arith) (omega arith)
+asked_is_date (Some d) r = is_date_lem d r.first r.last
 
 asked_in_range : (s : List ℕ) → format.Accepted s → is_date (asked_at (content s).data_date) ≡ true
 asked_in_range s w = asked_is_date (content s).data_date (content_in_range s w).data_date
 
 -- a call that no accepted book refuses is refused where the book is, as it is
-refused_not : {A : Type 0} (e p n : ℕ) → Refused e p ≡ Accepted n → A
-refused_not e p n h = let z : ◌≡◌ {A = ℕ} 0 1 = cc in absurd (omega arith)
+refused_not : {A : Type 0} (e : Refusal) (n : ℕ) → ◌≡◌ {A = Reply} (Err e) (Ok n) → A
+refused_not e n h = let z : ◌≡◌ {A = ℕ} 0 1 = cc in absurd (omega arith)
 
 book_refuses :
-    (conditions : List Condition) (rows : Book → Rows) (s : List ℕ) (lent : ℕ) → ((j : ℕ) → verdict s ≡ place.At j → IsAccepted (reply conditions rows s lent)) →
-    {e p : ℕ} → reply conditions rows s lent ≡ Refused e p → verdict s ≡ place.Refused e p
+    (conditions : List Condition) (rows : Book → Rows) (s : List ℕ) (lent : ℕ) → ((j : ℕ) → verdict s ≡ Ok j → IsAccepted (reply conditions rows s lent)) →
+    {e : Refusal} → reply conditions rows s lent ≡ Err e → verdict s ≡ Err e
 unfolding reply reply_number reply_place
-book_refuses conditions rows s lent sure {e} {p} r = go (verdict s) refl r
+book_refuses conditions rows s lent sure {e} r = go (verdict s) refl r
   where
-    go : (q : Pos) → verdict s ≡ q → reply_at q (checked conditions (content s) (fitted (rows (content s)) lent)) ≡ Refused e p → verdict s ≡ place.Refused e p
-    go (place.At j) v h = let a = sure j v in refused_not e p a.0 (sym r ∙ a.1)
-    go (place.Refused f q) v h = v ∙ ap (λ (x : Reply). place.Refused (reply_number x) (reply_place x)) h
+    go : (q : Pos) → verdict s ≡ q → reply_at q (checked conditions (content s) (fitted (rows (content s)) lent)) ≡ Err e → verdict s ≡ Err e
+    go (Ok j) v h = let a = sure j v in refused_not e a.0 (sym r ∙ a.1)
+    go (Err f) v h = v ∙ h
 
 -- ---- earned value
 module _ (s : List ℕ) (bytes : Bytes s) {day : ℕ} (asked : day ≡ asked_at (content s).data_date) {out after : List ℕ} {r : Reply} where
   module _ (a : Answers (at_date day) (earned_value_rows day) s out r after) (size : length out ≡ 500 * earned_width) where
     -- where the call is accepted, there is a row for each activity
-    pub earned_in_lem : {count : ℕ} → length after ≡ 500 * earned_width → r ≡ Accepted count → EarnedIn s day count after
+    pub earned_in_lem : {count : ℕ} → length after ≡ 500 * earned_width → r ≡ Ok count → EarnedIn s day count after
     earned_in_lem {count} kept e =
         let answer = sym a.answer ∙ e in
         let j = accepted_book (at_date day) (earned_value_rows day) s out answer in
@@ -85,7 +84,7 @@ module _ (s : List ℕ) (bytes : Bytes s) {day : ℕ} (asked : day ≡ asked_at 
         }
 
     -- it is refused where the book is
-    pub earned_refused : {e p : ℕ} → r ≡ Refused e p → verdict s ≡ place.Refused e p
+    pub earned_refused : {e p : ℕ} → r ≡ Err e → verdict s ≡ Err e
     earned_refused e =
         book_refuses (at_date day) (earned_value_rows day) s (length out)
         (λ j v.
@@ -100,12 +99,12 @@ module _ (s : List ℕ) (bytes : Bytes s) {day : ℕ} (asked : day ≡ asked_at 
   abbrev listed : ℕ
   listed = length (outline (parents (content s)))
 
-  few_lines : {j : ℕ} → verdict s ≡ place.At j → listed ≤ 500
+  few_lines : {j : ℕ} → verdict s ≡ Ok j → listed ≤ 500
   few_lines {j} v = omega (arith, (outline_is (parents (content s))).room, parents_count (content s), (content_limits s (verdict_accepts s bytes j v)).activities)
 
   -- where the call is accepted, there is a row for each line
-  module _ {count : ℕ} (e : r ≡ Accepted count) where
-    outlined : reply (at_date day) (outline_rows day) s (length out) ≡ Accepted count
+  module _ {count : ℕ} (e : r ≡ Ok count) where
+    outlined : reply (at_date day) (outline_rows day) s (length out) ≡ Ok count
     outlined = sym a.answer ∙ e
 
     all : count ≡ listed
@@ -126,7 +125,7 @@ module _ (s : List ℕ) (bytes : Bytes s) {day : ℕ} (asked : day ≡ asked_at 
         ∙ ap (λ (p : Pos). outlined_at p (content s)) (sym (accepted_book (at_date day) (outline_rows day) s out outlined).1)
 
   -- it is refused where the book is
-  pub outline_refused : length out ≡ 500 * outline_width → {e p : ℕ} → r ≡ Refused e p → refusal_line e p ≡ outline_text s
+  pub outline_refused : length out ≡ 500 * outline_width → {e p : ℕ} → r ≡ Err e → refusal_line e p ≡ outline_text s
   unfolding outline_text
   outline_refused size e =
       ap (λ (p : Pos). outlined_at p (content s))
@@ -158,8 +157,8 @@ curve_sized book from to = sized point_row 2 (λ x. refl) (planned_curve_between
 
 module _ (s : List ℕ) (from to : ℕ) {out after : List ℕ} {r : Reply} (a : Answers (between from to) (planned_curve_rows from to) s out r after) where
   -- where the call is accepted, there is at most a point for each date
-  module _ {count : ℕ} (e : r ≡ Accepted count) where
-    answer : reply (between from to) (planned_curve_rows from to) s (length out) ≡ Accepted count
+  module _ {count : ℕ} (e : r ≡ Ok count) where
+    answer : reply (between from to) (planned_curve_rows from to) s (length out) ≡ Ok count
     answer = sym a.answer ∙ e
 
     many : count ≡ length (planned_curve_between (content s) from to)
@@ -168,7 +167,7 @@ module _ (s : List ℕ) (from to : ℕ) {out after : List ℕ} {r : Reply} (a : 
     pub curve_few : count ≤ to + 1 - from
     curve_few = omega (arith, many, few_points (content s) from to)
 
-    pub curve_accepted : (j : ℕ) × (verdict s ≡ place.At j)
+    pub curve_accepted : (j : ℕ) × (verdict s ≡ Ok j)
     curve_accepted = accepted_book (between from to) (planned_curve_rows from to) s out answer
 
     pub curve_lines : point_lines after count ≡ curve_text (content s) from to
@@ -178,7 +177,7 @@ module _ (s : List ℕ) (from to : ℕ) {out after : List ℕ} {r : Reply} (a : 
         ∙ points_in_lem (planned_curve_between (content s) from to) (drop (length (numbers (planned_curve_rows from to (content s)))) out)
 
   -- it is refused where the book is
-  pub curve_refused : 10957 ≤ from → to ≤ 47481 → from ≤ to → (to + 1 - from) * 2 ≤ length out → {e p : ℕ} → r ≡ Refused e p → verdict s ≡ place.Refused e p
+  pub curve_refused : 10957 ≤ from → to ≤ 47481 → from ≤ to → (to + 1 - from) * 2 ≤ length out → {e p : ℕ} → r ≡ Err e → verdict s ≡ Err e
   curve_refused f t order room e =
       book_refuses (between from to) (planned_curve_rows from to) s (length out)
       (λ j v.

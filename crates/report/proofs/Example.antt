@@ -1,4 +1,5 @@
 -- Document 01's example: its status is the text that document 01 prints, and its outline. What is printed for a share that is absent, or 0, and beside a circle.
+use Rattle.std.specs.Prelude.{Ok}
 use Prim.Native.Nat.{ℕ}
 use mathlib.Core.Path.{◌≡◌, ap, ◌∙◌}
 use mathlib.Core.List.{List, [], ◌∷◌, flat_map}
@@ -6,8 +7,6 @@ use lib.IntN.{pos}
 use lib.ListN.{get_or}
 use Rattle.lists.specs.Lists.{span, keep}
 use Rattle.money.specs.Scale.{in_range, scaled_by}
-use Rattle.format.specs.declared.Pos.{Pos}
-use Rattle.format.specs.declared.Pos.TheVariants.{At}
 use Rattle.format.specs.Book.{Calendar}
 use Rattle.format.specs.Verdict.{content}
 use Rattle.format.proofs.Example.{bytes, example, read_back}
@@ -24,6 +23,7 @@ use Rattle.text.specs.Text.{places, decimal, pair, signed, marked, figures, line
 use Rattle.report.specs.Lines.{earned_line, point_line}
 use Rattle.report.specs.Status.{activity_line, total_line, earned_text, curve_text, text_at, status_text}
 use Rattle.report.specs.Outline.{outline_line, listed_text, outlined_at, outline_text}
+use Rattle.format.specs.Position.{Pos}
 
 -- `0 1000 667 500 400 600 4000`, `1` and `total` with the same, `19723 334`, `19724 667`, `19725 1000`
 abbrev printed : List ℕ
@@ -43,7 +43,7 @@ rows : (earned_at example 19724 0 ≡ row) × (earned_at example 19724 1 ≡ row
 unfolding earned_value parents span
 rows = (ap (λ (l : List Earned). get_or l 0 row) example_earned, ap (λ (l : List Earned). get_or l 1 row) example_earned)
 
-example_text : text_at (At 67) example ≡ printed
+example_text : text_at (Ok 67) example ≡ printed
 unfolding
     earned_text curve_text activity_line total_line earned_line point_line line marked figures signed decimal places earned_row optional scaled_by in_range
     parents span flat_map
@@ -51,7 +51,7 @@ example_text = rw (rows.0, rows.1, example_total, example_curve)
 
 pub example_status : status_text bytes ≡ printed
 unfolding status_text
-example_status = ap (λ (p : Pos). text_at p (content bytes)) (ap (λ (l : List Pos). get_or l 0 (At 0)) read_back.1) ∙ ap (text_at (At 67)) read_back.0 ∙ example_text
+example_status = ap (λ (p : Pos). text_at p (content bytes)) (ap (λ (l : List Pos). get_or l 0 (Ok 0)) read_back.1) ∙ ap (text_at (Ok 67)) read_back.0 ∙ example_text
 
 -- its outline: `1 0 1000 667 500 400 600 4000`, `2 1` with the same
 abbrev printed_outline : List ℕ
@@ -60,7 +60,7 @@ printed_outline =
     ∷ 50 ∷ 32 ∷ 49 ∷ 32 ∷ 49 ∷ 48 ∷ 48 ∷ 48 ∷ 32 ∷ 54 ∷ 54 ∷ 55 ∷ 32 ∷ 53 ∷ 48 ∷ 48 ∷ 32 ∷ 52 ∷ 48 ∷ 48 ∷ 32 ∷ 54 ∷ 48 ∷ 48 ∷ 32 ∷ 52 ∷ 48 ∷ 48 ∷ 48 ∷ 10
     ∷ []
 
-example_lines : outlined_at (At 67) example ≡ printed_outline
+example_lines : outlined_at (Ok 67) example ≡ printed_outline
 unfolding
     listed_text outline_line pair earned_line marked figures signed decimal places earned_row optional scaled_by in_range outline branches branch tops children
     parents keep span flat_map
@@ -69,7 +69,7 @@ example_lines = rw (rows.0, rows.1)
 pub example_outline : outline_text bytes ≡ printed_outline
 unfolding outline_text
 example_outline =
-    ap (λ (p : Pos). outlined_at p (content bytes)) (ap (λ (l : List Pos). get_or l 0 (At 0)) read_back.1) ∙ ap (outlined_at (At 67)) read_back.0 ∙ example_lines
+    ap (λ (p : Pos). outlined_at p (content bytes)) (ap (λ (l : List Pos). get_or l 0 (Ok 0)) read_back.1) ∙ ap (outlined_at (Ok 67)) read_back.0 ∙ example_lines
 
 -- ---- what is spent, on two small books: `-` without a budget, 0 where a share is 0
 

@@ -1,8 +1,6 @@
 -- The outline of a book as text: document 02's outline print for site meetings.
-use Rattle.std.specs.Prelude.{ℕ}
+use Rattle.std.specs.Prelude.{ℕ, Ok, Err}
 use mathlib.Core.List.{List, flat_map}
-use Rattle.format.specs.declared.Pos.{Pos}
-use Rattle.format.specs.declared.Pos.TheVariants.{At, Refused}
 use Rattle.format.specs.Book.{Book}
 use Rattle.format.specs.Verdict.{verdict, content}
 use Rattle.model.specs.Tree.{parents}
@@ -12,6 +10,7 @@ use Rattle.answers.specs.Rows.{earned_row}
 use Rattle.text.specs.Text.{pair}
 use Rattle.report.specs.Lines.{earned_line, refusal_line}
 use Rattle.report.specs.Status.{asked_at}
+use Rattle.format.specs.Position.{Pos, refused}
 
 -- a line's level and index, and its activity's figures at a date
 unfoldable pub outline_line : Book → ℕ → Line → List ℕ
@@ -23,8 +22,8 @@ listed_text book date = flat_map (outline_line book date) (outline (parents book
 
 -- of any bytes: the status program's refusal; or the outline at the status program's date
 abbrev pub outlined_at : Pos → Book → List ℕ
-outlined_at (Refused number place) book = refusal_line number place
-outlined_at (At i) book = listed_text book (asked_at book.data_date)
+outlined_at (Err e) book = refusal_line e
+outlined_at (Ok i) book = listed_text book (asked_at book.data_date)
 
 unfoldable pub outline_text : List ℕ → List ℕ
 outline_text s = outlined_at (verdict s) (content s)

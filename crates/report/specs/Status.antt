@@ -1,9 +1,6 @@
 -- The status of a book as text: document 01's section 'The status program'.
-use Rattle.std.specs.Prelude.{ℕ, zero, suc, ◌+◌, ◌*◌, ◌≤◌, ◌≡◌, length}
+use Rattle.std.specs.Prelude.{ℕ, zero, suc, ◌+◌, ◌*◌, ◌≤◌, ◌≡◌, length, None, Option, Some, Ok, Err}
 use mathlib.Core.List.{List, [], ◌∷◌, ◌++◌, flat_map}
-use Rattle.std.proofs.Math.Option.{Option, none, some}
-use Rattle.format.specs.declared.Pos.{Pos}
-use Rattle.format.specs.declared.Pos.TheVariants.{At, Refused}
 use Rattle.format.specs.Book.{Book}
 use Rattle.format.specs.Verdict.{verdict, content, Accepted}
 use Rattle.money.specs.Words.{bits}
@@ -14,11 +11,12 @@ use Rattle.model.specs.Earned.{earned_at, project_earned}
 use Rattle.answers.specs.Rows.{earned_width, earned_row}
 use Rattle.text.specs.Text.{decimal}
 use Rattle.report.specs.Lines.{earned_line, point_line, refusal_line, activity_lines}
+use Rattle.format.specs.Position.{Pos, refused}
 
 -- the date that a book is asked at: its data date, or the last date of D's range
 abbrev pub asked_at : Option ℕ → ℕ
-asked_at none = 47481
-asked_at (some day) = day
+asked_at None = 47481
+asked_at (Some day) = day
 
 -- ---- of an accepted book
 
@@ -46,8 +44,8 @@ curve_text book from to = flat_map curve_line (planned_curve_between book from t
 
 -- the refusal; or earned value at the asked date, and the curve over all dates of D's range
 abbrev pub text_at : Pos → Book → List ℕ
-text_at (Refused number place) book = refusal_line number place
-text_at (At i) book = earned_text book (asked_at book.data_date) ++ curve_text book 10957 47481
+text_at (Err e) book = refusal_line e
+text_at (Ok i) book = earned_text book (asked_at book.data_date) ++ curve_text book 10957 47481
 
 unfoldable pub status_text : List ℕ → List ℕ
 status_text s = text_at (verdict s) (content s)
@@ -55,10 +53,10 @@ status_text s = text_at (verdict s) (content s)
 -- ---- the same in four pages: earned value or the refusal, then the curve, a third of D's dates to a page
 
 abbrev pub page_at : Pos → Book → ℕ → List ℕ
-page_at (Refused number place) book zero = refusal_line number place
-page_at (Refused number place) book (suc k) = []
-page_at (At i) book zero = earned_text book (asked_at book.data_date)
-page_at (At i) book (suc k) = let from = 10957 + k * 12175 in curve_text book from (from + 12174)
+page_at (Err e) book zero = refusal_line e
+page_at (refused number place) book (suc k) = []
+page_at (Ok i) book zero = earned_text book (asked_at book.data_date)
+page_at (Ok i) book (suc k) = let from = 10957 + k * 12175 in curve_text book from (from + 12174)
 
 unfoldable pub status_page : List ℕ → ℕ → List ℕ
 status_page s k = page_at (verdict s) (content s) k

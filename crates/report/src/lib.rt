@@ -6,9 +6,8 @@ ghost use Rattle.std.specs.Prelude.{◌≡◌, ◌++◌, ◌+◌, ◌≤◌, ◌
 ghost use Rattle.format.specs.Verdict.{content, Accepted};
 ghost use Rattle.report.specs.Status.{asked_at, total_line, EarnedIn, status_page};
 
-use answers::{EARNED_WIDTH, Reply};
+use answers::EARNED_WIDTH;
 use book::layout::read_layout;
-use fields::OptionalNumber;
 use lines::{put_activities, put_earned_line, put_points, put_refusal};
 
 pub mod lines;
@@ -43,8 +42,8 @@ pub fn asked_date(book: &[u8]) -> u64
     let header = layout.header;
     let date = header.date;
     match date {
-        OptionalNumber::Present(day) => day,
-        OptionalNumber::Absent => LAST_DAY,
+        Some(day) => day,
+        None => LAST_DAY,
     }
 }
 
@@ -57,7 +56,7 @@ fn put_total(book: &[u8], day: u64, out: &mut [u8], at: usize) -> usize
     ensures out_after { take result out.new ≡ take at out.old ++ total_line (content book.now) day }
 {
     let mut row = [0u64; EARNED_WIDTH];
-    engine::project_earned(book, day, &mut row);
+    let _ = engine::project_earned(book, day, &mut row);
     put_earned_line(out, at, b"total", &row)
 }
 
@@ -82,8 +81,8 @@ fn put_earned(book: &[u8], out: &mut [u8]) -> usize
     let mut rows = [0u64; MOST_NUMBERS];
     let reply = engine::earned_value(book, day, &mut rows);
     match reply {
-        Reply::Accepted(count) => put_accepted(book, day, &rows, count as usize, out),
-        Reply::Refused(number, place) => put_refusal(out, number, place),
+        Ok(count) => put_accepted(book, day, &rows, count as usize, out),
+        Err(refusal) => put_refusal(out, refusal),
     }
 }
 
@@ -99,8 +98,8 @@ fn put_stretch(book: &[u8], stretch: u64, out: &mut [u8]) -> usize
     let from = FIRST_DAY + stretch * STRETCH;
     let reply = engine::planned_curve(book, from, from + (STRETCH - 1), &mut points);
     match reply {
-        Reply::Accepted(count) => put_points(out, &points, count as usize),
-        Reply::Refused(_, _) => 0,
+        Ok(count) => put_points(out, &points, count as usize),
+        Err(_) => 0,
     }
 }
 

@@ -4,7 +4,7 @@ ghost use Rattle.report.specs.Outline.{outline_text};
 
 use crate::asked_date;
 use crate::lines::{put_outline_rows, put_refusal};
-use answers::{OUTLINE_WIDTH, Reply};
+use answers::OUTLINE_WIDTH;
 
 // The numbers of 500 rows of the outline: more no book has.
 const MOST_NUMBERS: usize = 500 * OUTLINE_WIDTH;
@@ -26,7 +26,7 @@ pub fn put_outline(book: &[u8], out: &mut [u8]) -> usize
     let mut rows = [0u64; MOST_NUMBERS];
     let reply = engine::outline(book, day, &mut rows);
     match reply {
-        Reply::Accepted(count) => put_outline_rows(out, &rows, count as usize),
-        Reply::Refused(number, place) => put_refusal(out, number, place),
+        Ok(count) => put_outline_rows(out, &rows, count as usize),
+        Err(refusal) => put_refusal(out, refusal),
     }
 }

@@ -3,11 +3,9 @@
 
 ghost use Rattle.std.specs.Prelude.{◌≡◌, map, ◌+◌, ◌≤◌, ◌<◌, length};
 ghost use Rattle.std.proofs.lemmas.List.Edits.{sets};
-ghost use Rattle.fields.specs.Optional.{number_option};
 ghost use Rattle.money.specs.Words.{bits};
 ghost use Rattle.rows.specs.Rows.{optional};
 
-use fields::OptionalNumber;
 use money::words::to_bits;
 
 // Puts figures, row after row as they stand.
@@ -29,16 +27,16 @@ pub fn put_row<T: Copy>(row: &[T], at: usize, out: &mut [T])
 }
 
 // Puts a number that may be absent, as numbers `at` and `at` + 1.
-pub fn put_optional(number: OptionalNumber, at: usize, out: &mut [u64])
+pub fn put_optional(number: Option<u64>, at: usize, out: &mut [u64])
     requires { at + 1 < length out.old }
-    ensures { out.new ≡ sets out.old at (optional (number_option number)) }
+    ensures { out.new ≡ sets out.old at (optional number) }
 {
     match number {
-        OptionalNumber::Absent => {
+        None => {
             out[at] = 0;
             out[at + 1] = 0;
         }
-        OptionalNumber::Present(n) => {
+        Some(n) => {
             out[at] = 1;
             out[at + 1] = n;
         }

@@ -6,10 +6,10 @@ use mathlib.Core.Path.{◌≡◌, ap, sym, ◌∙◌}
 use mathlib.Core.List.{List, ◌∷◌, map, append-nil}
 use lib.ListN.{length, set, length-set, length-map}
 use lib.Seq.{sets, sets-eq, drop-length}
-use Rattle.format.specs.declared.Pos.{Pos}
 use Rattle.format.specs.Reader.{many}
 use Rattle.format.specs.Codec.{Codec, times, alike, stay}
 use Rattle.format.proofs.Walks.{times_length}
+use Rattle.format.specs.Position.{Pos}
 
 -- a list that is set whole
 set_whole : {B : Type 0} (vs t : List B) → length vs ≡ length t → sets t 0 vs ≡ vs

@@ -3,13 +3,13 @@ use Prim.Native.Nat.{ℕ, suc, ◌+◌, ◌-◌, ◌≤◌, ◌<◌}
 use native.Mathlib.Omega.{arith}
 use mathlib.Core.Path.{◌≡◌, ap, ◌∙◌}
 use mathlib.Core.List.{List}
-use Rattle.format.specs.declared.Pos.{Pos}
 use Rattle.format.specs.Reader.{many}
 use Rattle.format.specs.Field.{count}
 use Rattle.format.specs.Codec.{Codec, field, ◌&◌, times, list, alike, up_to, counted}
 use Rattle.records.proofs.Parts.{both_read, iso_read}
 use Rattle.sections.specs.declared.Section.{Section}
 use Rattle.sections.specs.Sections.{IsList, IsAlike, elements, alike_in}
+use Rattle.format.specs.Position.{Pos}
 
 module _ {X A : Type 0} (c : X → Codec A) (f : X → A → X) (s : List ℕ) (n : ℕ) (x : X) (p : Pos) where
   -- i of the n elements from p on are read: they leave the state y, and the next begins at q

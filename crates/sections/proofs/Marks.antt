@@ -1,45 +1,46 @@
 -- Marks of what the budgets before name.
+use Rattle.std.specs.Prelude.{None, Option, Some, Err, Ok}
 use Prim.Native.Nat.{ℕ, ◌≤◌, ◌<◌, min}
 use native.Mathlib.Omega.{arith}
 use mathlib.Core.Path.{◌≡◌, refl, sym, ◌∙◌}
 use mathlib.Core.Bool.{Bool, true, false, cond}
 use mathlib.Core.List.{List, [], ◌∷◌}
-use mathlib.Core.Option.{Option, none, some}
 use lib.Dec.{eqb}
 use lib.ListN.{length, get_or, set, length-set, replicate, get_or-replicate, length-replicate}
 use lib.Seq.{get_or-set_same, get_or-set_other}
 use borrow.Author.Tests.{eqb-true, eqb-false, eq-eqb, ne_eqb}
-use Rattle.format.specs.declared.Pos.{Pos}
-use Rattle.format.specs.declared.Pos.TheVariants.{At, Refused}
 use Rattle.format.specs.Reader.{place_of, ranged, optional, passing, tested, both, mapped}
 use Rattle.format.specs.Field.{range, index}
 use Rattle.format.specs.Codec.{O, test, iso, ◌then◌, ◌&◌}
 use Rattle.format.specs.Format.{names, is_new, budget}
 use Rattle.sections.specs.Sections.{mark_of}
 use Rattle.sections.proofs.Limits.{ranged_below}
+use Rattle.format.specs.Position.{Pos}
+use Rattle.format.specs.declared.Reason.TheVariants.{OutOfRange, OutOfOrder}
+use Rattle.format.specs.declared.Reason.{Reason}
 
 -- what has a mark of its own
 abbrev pub Small : Option ℕ → Type 0
-Small none = Unit {0}
-Small (some v) = v < 500
+Small None = Unit {0}
+Small (Some v) = v < 500
 
 -- ---- what is read has one
-chosen_small : (b : Bool) (p : Pos) (v : ℕ × Pos) → v.0 < 500 → Small (cond {A = Option ℕ × Pos} b (none, p) (some v.0, v.1)).0
+chosen_small : (b : Bool) (p : Pos) (v : ℕ × Pos) → v.0 < 500 → Small (cond {A = Option ℕ × Pos} b (None, p) (Some v.0, v.1)).0
 chosen_small true p v h = tt
 chosen_small false p v h = h
 
 pub index_small : (n : ℕ) (s : List ℕ) (p : Pos) → n ≤ 500 → Small ((O (index n)).read s p).0
 unfolding O range optional
 index_small n s p h =
-    let mark = ranged 0 2 4 (place_of p) s p in
-    chosen_small (eqb mark.0 0) mark.1 (ranged 0 n 4 (place_of p) s mark.1) (ranged_below 0 n 4 (place_of p) h (omega arith) s mark.1)
+    let mark = ranged 0 2 OutOfRange (place_of p) s p in
+    chosen_small (eqb mark.0 0) mark.1 (ranged 0 n OutOfRange (place_of p) s mark.1) (ranged_below 0 n OutOfRange (place_of p) h (omega arith) s mark.1)
 
 -- and so has what a test leaves of it
-pub tested_small : (code place : ℕ) (t : Bool) (a : Option ℕ) (q : Pos) → Small a → Small (tested none code place t (a, q)).0
+pub tested_small : (code : Reason) (place : ℕ) (t : Bool) (a : Option ℕ) (q : Pos) → Small a → Small (tested None code place t (a, q)).0
 unfolding tested
-tested_small code place true a (At i) h = h
-tested_small code place false a (At i) h = tt
-tested_small code place t a (Refused e p) h = h
+tested_small code place true a (Ok i) h = h
+tested_small code place false a (Ok i) h = tt
+tested_small code place t a (Err e) h = h
 
 -- ---- the marks
 -- what is marked is what a budget before names
@@ -49,8 +50,8 @@ pub record Marked (marks : List ℕ) (before : List (Option ℕ)) : Type 0 where
 
 mark_below : (a : Option ℕ) → mark_of a < 501
 unfolding mark_of
-mark_below none = omega arith
-mark_below (some v) = omega arith
+mark_below None = omega arith
+mark_below (Some v) = omega arith
 
 pub none_marked : Marked (replicate 501 0) []
 unfolding is_new
@@ -66,10 +67,10 @@ place_below a e = omega (arith, mark_below a)
 -- two that are named apart have marks apart
 apart : (b a : Option ℕ) → Small b → Small a → names b a ≡ eqb (mark_of b) (mark_of a)
 unfolding names mark_of
-apart none none h k = refl
-apart none (some v) h k = sym (ne_eqb 500 (min v 500) (λ e. omega arith))
-apart (some u) none h k = sym (ne_eqb (min u 500) 500 (λ e. omega arith))
-apart (some u) (some v) h k =
+apart None None h k = refl
+apart None (Some v) h k = sym (ne_eqb 500 (min v 500) (λ e. omega arith))
+apart (Some u) None h k = sym (ne_eqb (min u 500) 500 (λ e. omega arith))
+apart (Some u) (Some v) h k =
     let x : min u 500 ≡ u = omega arith in
     let y : min v 500 ≡ v = omega arith in
     rw (x, y)
@@ -94,4 +95,4 @@ pub budget_small : (n : ℕ) (before : List (Option ℕ)) (s : List ℕ) (p : Po
 unfolding budget iso mapped ◌&◌ ◌then◌ both test passing
 budget_small n before s p h =
     let name = (O (index n)).read s p in
-    tested_small 6 (place_of p) (is_new before name.0) name.0 name.1 (index_small n s p h)
+    tested_small OutOfOrder (place_of p) (is_new before name.0) name.0 name.1 (index_small n s p h)

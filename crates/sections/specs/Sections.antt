@@ -1,16 +1,14 @@
 -- What a list of the book is, and what a record with lists holds.
-use Rattle.std.specs.Prelude.{ℕ, min, ◌≡◌, List}
-use Rattle.std.proofs.Math.Option.{Option, none, some}
-use Rattle.format.specs.declared.Pos.{Pos}
+use Rattle.std.specs.Prelude.{ℕ, min, ◌≡◌, List, None, Option, Some}
 use Rattle.format.specs.Field.{count}
 use Rattle.format.specs.Codec.{Codec, field, times, stay}
 use Rattle.format.specs.Book as book
 use Rattle.format.specs.Format.{rising, exception, price, amount}
-use Rattle.fields.specs.Optional.{number_option}
 use Rattle.sections.specs.declared.Section.{Section}
 use Rattle.sections.specs.declared.budgets.Budget.{Budget}
 use Rattle.sections.specs.declared.calendars.Calendar.{Calendar}
 use Rattle.sections.specs.declared.resources.Resource.{Resource}
+use Rattle.format.specs.Position.{Pos}
 
 -- r is a list of `low` to `most` elements, led by their count, from p on; an element may depend on a state that those before it leave
 pub record IsList {X A : Type 0} (low most : ℕ) (c : X → Codec A) (f : X → A → X) (x : X) (s : List ℕ) (p : Pos) (r : Section) : Type 0 where
@@ -42,9 +40,9 @@ unfoldable pub resource_of : List ℕ → Resource → book.Resource
 resource_of s r = record { kind = r.kind; prices = alike_in price s r.prices }
 
 unfoldable pub budget_of : List ℕ → Budget → book.Budget
-budget_of s b = record { activity = number_option b.activity; original = b.original; plan = alike_in amount s b.plan }
+budget_of s b = record { activity = b.activity; original = b.original; plan = alike_in amount s b.plan }
 
 -- where what is named has its mark
 unfoldable pub mark_of : Option ℕ → ℕ
-mark_of none = 500
-mark_of (some a) = min a 500
+mark_of None = 500
+mark_of (Some a) = min a 500

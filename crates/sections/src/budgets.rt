@@ -1,23 +1,20 @@
 // Budgets, and lists of amounts.
-ghost use Rattle.std.specs.Prelude.{◌≡◌, List, [], ◌∷◌, ℕ, ◌≤◌, ◌<◌};
-ghost use Rattle.std.proofs.Math.Option.{Option};
+ghost use Rattle.std.specs.Prelude.{◌≡◌, List, [], ◌∷◌, ℕ, ◌≤◌, ◌<◌, Option};
 ghost use Rattle.format.specs.Field as kind;
 ghost use Rattle.format.specs.Codec.{O};
 ghost use Rattle.format.specs.Format as layout;
-ghost use Rattle.fields.specs.Optional.{number_option};
 ghost use Rattle.sections.specs.Sections.{IsList, IsAlike, budget_of, mark_of};
 
 use crate::Section;
 use crate::elements::{Element, read_elements};
-use fields::OptionalNumber;
 use fields::kinds::{field, optional_index};
-use format::{COUNT_OUT_OF_RANGE, Pos};
+use format::{Pos, Reason};
 use records::budgets::read_budget_head;
 
 // A budget, its plan by where it is.
 #[derive(Clone, Copy)]
 pub struct Budget {
-    pub activity: OptionalNumber,
+    pub activity: Option<u64>,
     pub original: i64,
     pub plan: Section,
     pub next: Pos,
@@ -46,12 +43,12 @@ pub fn read_budget(book: &[u8], at: Pos, activities: u64, new: bool) -> Budget
 }
 
 // Where what is named has its mark: an activity at its index, none behind all of them.
-pub fn mark_of(activity: OptionalNumber) -> usize
-    ensures { result ≡ mark_of (number_option activity) }
+pub fn mark_of(activity: Option<u64>) -> usize
+    ensures { result ≡ mark_of activity }
 {
     match activity {
-        OptionalNumber::Absent => 500,
-        OptionalNumber::Present(a) => { if a < 500 { a as usize } else { 500 } }
+        None => 500,
+        Some(a) => { if a < 500 { a as usize } else { 500 } }
     }
 }
 
@@ -60,7 +57,7 @@ pub fn read_budgets(book: &[u8], at: Pos, activities: u64) -> Section
     requires { activities ≤ 500 }
     ensures { IsList 0 501 (layout.budget activities) (λ before b. b.activity ∷ before) [] book.now at result }
 {
-    let lead = field(book, at, 0, 502, COUNT_OUT_OF_RANGE);
+    let lead = field(book, at, 0, 502, Reason::CountOutOfRange);
     let first = lead.next;
     let count = lead.value;
     if count == 0 {

@@ -5,7 +5,7 @@ ghost use Rattle.sections.specs.Sections.{IsList, calendar_of};
 
 use crate::Section;
 use fields::kinds::{field, rising};
-use format::{COUNT_OUT_OF_RANGE, Pos, Region};
+use format::{Pos, Reason, Region};
 use records::calendars::{read_calendar_head, read_exception};
 
 // A calendar, its lists by where they are.
@@ -23,7 +23,7 @@ pub struct Calendar {
 fn read_days(book: &[u8], at: Pos) -> Section
     ensures { IsList 0 366 layout.rising (λ before day. day) 0 book.now at result }
 {
-    let lead = field(book, at, 0, 367, COUNT_OUT_OF_RANGE);
+    let lead = field(book, at, 0, 367, Reason::CountOutOfRange);
     let first = lead.next;
     let count = lead.value;
     let mut next = first;
@@ -40,7 +40,7 @@ fn read_days(book: &[u8], at: Pos) -> Section
 fn read_exceptions(book: &[u8], at: Pos) -> Section
     ensures { IsList 0 366 layout.exception (λ before e. e.day) 0 book.now at result }
 {
-    let lead = field(book, at, 0, 367, COUNT_OUT_OF_RANGE);
+    let lead = field(book, at, 0, 367, Reason::CountOutOfRange);
     let first = lead.next;
     let count = lead.value;
     let mut next = first;

@@ -9,7 +9,7 @@ use crate::Section;
 use crate::calendars::read_calendar;
 use crate::resources::read_resource;
 use fields::kinds::{amount, date, field};
-use format::{COUNT_OUT_OF_RANGE, Pos};
+use format::{Pos, Reason};
 use records::activities::{read_activity, read_assignment, read_baseline_line, read_expense};
 use records::budgets::read_budget_change;
 use records::periods::read_period_record;
@@ -72,7 +72,7 @@ pub fn read_elements(book: &[u8], at: Pos, element: Element, low: u64, most: u64
     requires { most < 10000 }
     ensures { IsAlike low most (codec_of element) book.now at result }
 {
-    let lead = field(book, at, low, most + 1, COUNT_OUT_OF_RANGE);
+    let lead = field(book, at, low, most + 1, Reason::CountOutOfRange);
     Section {
         count: lead.value,
         first: lead.next,
@@ -84,7 +84,7 @@ pub fn read_elements(book: &[u8], at: Pos, element: Element, low: u64, most: u64
 pub fn read_activities(book: &[u8], at: Pos, calendars: u64) -> Section
     ensures { IsAlike 0 500 (layout.activity calendars result.count) book.now at result }
 {
-    let lead = field(book, at, 0, 501, COUNT_OUT_OF_RANGE);
+    let lead = field(book, at, 0, 501, Reason::CountOutOfRange);
     let element = Element::Activity {
         calendars,
         activities: lead.value,

@@ -5,7 +5,7 @@ ghost use Rattle.sections.specs.Sections.{IsAlike, resource_of};
 
 use crate::Section;
 use fields::kinds::field;
-use format::{COUNT_OUT_OF_RANGE, Pos, ResourceKind};
+use format::{Pos, Reason, ResourceKind};
 use records::resources::{read_price, read_resource_head};
 
 // A resource, its prices by where they are.
@@ -20,7 +20,7 @@ pub struct Resource {
 fn read_prices(book: &[u8], at: Pos) -> Section
     ensures { IsAlike 0 40 layout.price book.now at result }
 {
-    let lead = field(book, at, 0, 41, COUNT_OUT_OF_RANGE);
+    let lead = field(book, at, 0, 41, Reason::CountOutOfRange);
     let first = lead.next;
     let count = lead.value;
     let mut next = first;

@@ -1,4 +1,5 @@
 -- The spans of an accepted book are dates, and their day lists are the activities' days.
+use Rattle.std.specs.Prelude.{None, Option, Some, unwrap_or}
 use Prim.Native.Nat.{ℕ, zero, suc, ◌≤◌, ◌<◌, min, max}
 use native.Mathlib.Omega.{arith}
 use mathlib.Core.Path.{◌≡◌, refl, sym}
@@ -6,7 +7,6 @@ use mathlib.Core.Bool.{Bool, true, false, cond}
 use mathlib.Core.Logic.{⊎_elim}
 use mathlib.Core.List.Memᴰ
 use mathlib.Core.List.{List, [], ◌∷◌, Memᴰ}
-use mathlib.Core.Option.{Option, none, some, get_or, or_else}
 use lib.ListN.{length}
 use Rattle.format.specs.declared.Status.{Status}
 use Rattle.format.specs.declared.Status.TheVariants.{NotStarted, InProgress, Completed}
@@ -22,6 +22,7 @@ use Rattle.model.specs.Days.{working_days, or_alone, day_list, is_started, actua
 use Rattle.spans.specs.Columns.{actual_from, remaining_since, first_date, last_date, days_in}
 use Rattle.spans.specs.declared.Stretch.{Stretch}
 use Rattle.spans.specs.Stretches.{CoversSpans}
+use Rattle.std.specs.Option.{option_or}
 
 -- ---- spans are of the book's dates
 
@@ -29,23 +30,23 @@ use Rattle.spans.specs.Stretches.{CoversSpans}
 abbrev pub NoneOrDate : ℕ → Type 0
 NoneOrDate d = 0 < d → IsDate d
 
-given_date : (o : Option ℕ) → Given IsDate o → NoneOrDate (get_or o 0)
-given_date none h k = absurd (omega arith)
-given_date (some d) h k = h
+given_date : (o : Option ℕ) → Given IsDate o → NoneOrDate (unwrap_or o 0)
+given_date None h k = absurd (omega arith)
+given_date (Some d) h k = h
 
-or_else_date : (a b : Option ℕ) → Given IsDate a → Given IsDate b → Given IsDate (or_else a b)
-unfolding or_else
-or_else_date none b h k = k
-or_else_date (some d) b h k = h
+or_else_date : (a b : Option ℕ) → Given IsDate a → Given IsDate b → Given IsDate (option_or a b)
+unfolding
+or_else_date None b h k = k
+or_else_date (Some d) b h k = h
 
 if_started : (b : Bool) (d : ℕ) → NoneOrDate d → NoneOrDate (cond b d 0)
 if_started true d h = h
 if_started false d h = λ k. absurd (omega arith)
 
-between_date : (date : Option ℕ) (start finish : ℕ) → Given IsDate date → IsDate start → IsDate finish → IsDate (min (max (get_or date start) start) finish)
-between_date none start finish h s f =
+between_date : (date : Option ℕ) (start finish : ℕ) → Given IsDate date → IsDate start → IsDate finish → IsDate (min (max (unwrap_or date start) start) finish)
+between_date None start finish h s f =
     record { first = omega (arith, s.first, f.first); last = omega (arith, f.last) }
-between_date (some d) start finish h s f =
+between_date (Some d) start finish h s f =
     record { first = omega (arith, s.first, f.first); last = omega (arith, f.last) }
 
 since_date :
@@ -56,16 +57,16 @@ since_date InProgress date start finish h s f k = between_date date start finish
 since_date Completed date start finish h s f k = absurd (omega arith)
 
 to_last : (finish date : Option ℕ) (from : ℕ) → Given IsDate finish → Given IsDate date → NoneOrDate from → actual_to finish date from ≤ 47481
-to_last (some d) date from f h k = f.last
-to_last none (some d) from f h k = omega (arith, h.last)
-to_last none none zero f h k = omega arith
-to_last none none (suc d) f h k = (k (omega arith)).last
+to_last (Some d) date from f h k = f.last
+to_last None (Some d) from f h k = omega (arith, h.last)
+to_last None None zero f h k = omega arith
+to_last None None (suc d) f h k = (k (omega arith)).last
 
 module _ {calendars activities : ℕ} {a : Activity} (r : ActivityInRange calendars activities a) (date : Option ℕ) (h : Given IsDate date) where
   actual_date : NoneOrDate (actual_from a)
   actual_date =
-      if_started (is_started a.status) (get_or (or_else a.actual_start a.actual_finish) 0)
-      (given_date (or_else a.actual_start a.actual_finish) (or_else_date a.actual_start a.actual_finish r.actual_start r.actual_finish))
+      if_started (is_started a.status) (unwrap_or (option_or a.actual_start a.actual_finish) 0)
+      (given_date (option_or a.actual_start a.actual_finish) (or_else_date a.actual_start a.actual_finish r.actual_start r.actual_finish))
 
   pub first_in_range : (way : Way) → NoneOrDate (first_date date way a)
   unfolding first_date
@@ -96,11 +97,11 @@ date_days c first last d = sym (days_in_lem c first last (omega (arith, d.first)
 module _ (book : Book) (a : Activity) where
   since_days :
       (b : Bool) (o : Option ℕ) → Given IsDate o →
-      cond b (days_since book a o) [] ≡ days_in (calendar_of book a) (cond b (get_or o 0) 0) (actual_to a.actual_finish book.data_date (cond b (get_or o 0) 0))
+      cond b (days_since book a o) [] ≡ days_in (calendar_of book a) (cond b (unwrap_or o 0) 0) (actual_to a.actual_finish book.data_date (cond b (unwrap_or o 0) 0))
   unfolding days_since days_in
   since_days false o h = refl
-  since_days true none h = refl
-  since_days true (some d) h = date_days (calendar_of book a) d (actual_to a.actual_finish book.data_date d) h
+  since_days true None h = refl
+  since_days true (Some d) h = date_days (calendar_of book a) d (actual_to a.actual_finish book.data_date d) h
 
   left_days :
       (status : Status) → Given IsDate book.data_date → IsDate a.early_start → IsDate a.early_finish →
@@ -108,7 +109,7 @@ module _ (book : Book) (a : Activity) where
   unfolding days_left planned_days remaining_from days_in
   left_days NotStarted h s f = date_days (calendar_of book a) a.early_start a.early_finish s
   left_days InProgress h s f =
-      date_days (calendar_of book a) (min (max (get_or book.data_date a.early_start) a.early_start) a.early_finish) a.early_finish
+      date_days (calendar_of book a) (min (max (unwrap_or book.data_date a.early_start) a.early_start) a.early_finish) a.early_finish
       (between_date book.data_date a.early_start a.early_finish h s f)
   left_days Completed h s f = refl
 
@@ -123,7 +124,7 @@ days_are book r Planned i h =
 days_are book r Actual i h =
     let a = activity_at book i in
     let f = r.activities i no_activity h in
-    since_days book a (is_started a.status) (or_else a.actual_start a.actual_finish) (or_else_date a.actual_start a.actual_finish f.actual_start f.actual_finish)
+    since_days book a (is_started a.status) (option_or a.actual_start a.actual_finish) (or_else_date a.actual_start a.actual_finish f.actual_start f.actual_finish)
 days_are book r Remaining i h =
     let a = activity_at book i in
     let f = r.activities i no_activity h in

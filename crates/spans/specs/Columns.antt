@@ -1,6 +1,5 @@
 -- The numbers of an activity: its parent, its calendar, the spans of its days.
-use Rattle.std.specs.Prelude.{ℕ, zero, suc, min, max, cond, List, []}
-use Rattle.std.proofs.Math.Option.{Option, get_or, or_else}
+use Rattle.std.specs.Prelude.{ℕ, zero, suc, min, max, cond, List, [], Option, unwrap_or}
 use Rattle.format.specs.declared.Status.{Status}
 use Rattle.format.specs.declared.Status.TheVariants.{NotStarted, InProgress, Completed}
 use Rattle.format.specs.Book.{Calendar, Activity}
@@ -8,6 +7,7 @@ use Rattle.sections.specs.Sections.{mark_of}
 use Rattle.model.specs.declared.Way.{Way}
 use Rattle.model.specs.declared.Way.TheVariants.{Planned, Actual, Remaining}
 use Rattle.model.specs.Days.{day_list, is_started, actual_to}
+use Rattle.std.specs.Option.{option_or}
 
 -- the parent's index; 500, which is no index, for none
 unfoldable pub parent_number : Activity → ℕ
@@ -15,18 +15,18 @@ parent_number a = mark_of a.parent
 
 -- the calendar's index; none is calendar 0, the project's
 unfoldable pub calendar_number : Activity → ℕ
-calendar_number a = get_or a.calendar 0
+calendar_number a = unwrap_or a.calendar 0
 
 -- ---- the span of an activity's days, three ways; its first date is 0 where there are none
 
 -- from the actual start, else from the actual finish; none where unstarted
 abbrev pub actual_from : Activity → ℕ
-actual_from a = cond (is_started a.status) (get_or (or_else a.actual_start a.actual_finish) 0) 0
+actual_from a = cond (is_started a.status) (unwrap_or (option_or a.actual_start a.actual_finish) 0) 0
 
 -- where unstarted the early start; where in progress the data date, but not before the early start nor after the early finish
 abbrev pub remaining_since : Status → Option ℕ → ℕ → ℕ → ℕ
 remaining_since NotStarted date start finish = start
-remaining_since InProgress date start finish = min (max (get_or date start) start) finish
+remaining_since InProgress date start finish = min (max (unwrap_or date start) start) finish
 remaining_since Completed date start finish = 0
 
 -- the first date, under a data date

@@ -1,13 +1,10 @@
 // The first and the last date of an activity's days, actual and remaining.
 ghost use Rattle.std.specs.Prelude.{◌≡◌};
-ghost use Rattle.std.proofs.Math.Option.{none};
-ghost use Rattle.fields.specs.Optional.{number_option};
 ghost use Rattle.records.specs.Decoded.{activity_of};
 ghost use Rattle.model.specs.Days.{is_started, actual_to};
 ghost use Rattle.spans.specs.Columns.{actual_from, remaining_since};
 
 use crate::number_or;
-use fields::OptionalNumber;
 use format::Status;
 use records::activities::Activity;
 
@@ -32,25 +29,25 @@ pub fn actual_from(activity: Activity) -> u64
 }
 
 // The day before the data date, else another.
-fn day_before(date: OptionalNumber, other: u64) -> u64
-    ensures { result ≡ actual_to none (number_option date) other }
+fn day_before(date: Option<u64>, other: u64) -> u64
+    ensures { result ≡ actual_to None date other }
 {
     match date {
-        OptionalNumber::Absent => other,
-        OptionalNumber::Present(d) => d.saturating_sub(1),
+        None => other,
+        Some(d) => d.saturating_sub(1),
     }
 }
 
 // The actual finish, else the day before the data date, else the first date.
-pub fn actual_to(finished: OptionalNumber, date: OptionalNumber, from: u64) -> u64
-    ensures { result ≡ actual_to (number_option finished) (number_option date) from }
+pub fn actual_to(finished: Option<u64>, date: Option<u64>, from: u64) -> u64
+    ensures { result ≡ actual_to finished date from }
 {
     number_or(finished, day_before(date, from))
 }
 
 // The first date of what remains: by the status.
-pub fn remaining_since(status: Status, date: OptionalNumber, start: u64, finish: u64) -> u64
-    ensures { result ≡ remaining_since status (number_option date) start finish }
+pub fn remaining_since(status: Status, date: Option<u64>, start: u64, finish: u64) -> u64
+    ensures { result ≡ remaining_since status date start finish }
 {
     match status {
         Status::NotStarted => start,

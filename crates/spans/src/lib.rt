@@ -1,11 +1,7 @@
 // The spans of an activity's days, and the stretch of dates that spans take.
 #![tactic(auto)]
 
-ghost use Rattle.std.specs.Prelude.{◌≡◌};
-ghost use Rattle.std.proofs.Math.Option.{get_or};
-ghost use Rattle.fields.specs.Optional.{number_option};
-
-use fields::OptionalNumber;
+ghost use Rattle.std.specs.Prelude.{◌≡◌, unwrap_or};
 
 pub mod bounds;
 pub mod stretches;
@@ -18,11 +14,11 @@ pub struct Stretch {
 }
 
 // The number, else another.
-pub fn number_or(number: OptionalNumber, other: u64) -> u64
-    ensures { result ≡ get_or (number_option number) other }
+pub fn number_or(number: Option<u64>, other: u64) -> u64
+    ensures { result ≡ unwrap_or number other }
 {
     match number {
-        OptionalNumber::Absent => other,
-        OptionalNumber::Present(n) => n,
+        None => other,
+        Some(n) => n,
     }
 }

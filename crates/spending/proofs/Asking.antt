@@ -1,4 +1,5 @@
 -- What is asked of an accepted book: its tables are as laying and writing need them.
+use Rattle.std.specs.Prelude.{Option, ℕ}
 use Prim.Native.Nat.{ℕ, ◌+◌, ◌*◌, ◌≤◌, ◌<◌, min, max}
 use mathlib.Core.Path.{◌≡◌, sym, ap, ap₂, ◌∙◌, subst}
 use mathlib.Core.List.{List, [], flat_map}
@@ -19,12 +20,10 @@ use Rattle.model.specs.Costs.{budget_by_day, spending_between}
 use Rattle.model.specs.declared.Way.TheVariants.{Planned}
 use Rattle.model.proofs.Points.{points_none}
 use Rattle.calendar.specs.Tables.{ShowsAll}
-use Rattle.fields.specs.declared.OptionalNumber.{OptionalNumber}
 use Rattle.book.specs.declared.layout.Plan.{Plan}
 use Rattle.spans.specs.declared.Stretch.{Stretch}
 use Rattle.activities.specs.Schedule.{schedule_of, first_in, last_in}
 use Rattle.spans.specs.Stretches.{DatedSpans, CoversSpans}
-use Rattle.answers.specs.declared.Reply.{Reply}
 use Rattle.prices.specs.Rates.{rate_row, rates_of}
 use Rattle.laid.specs.Laid.{Laid}
 use Rattle.bydate.specs.Pointed.{points_in, Reaches}
@@ -41,6 +40,7 @@ use Rattle.spending.specs.Charged.{AreTables, Charged, AreCharged, AreSpans, IsS
 use Rattle.spending.proofs.Written.{writes_same}
 use Rattle.spending.proofs.Charging.{charged_are}
 use Rattle.spending.proofs.Spanning.{spans_are, spans_listed, budget_within}
+use Rattle.answers.specs.Reply.{Reply}
 
 -- ---- parts of arrays
 
@@ -75,7 +75,7 @@ planned_covers t {r} w =
 
 -- ---- the dates that are asked, within the stretch
 
-module _ {s : List ℕ} {date : OptionalNumber} {plan : Plan} (p : IsPlanOf s date plan) {schedule : List ℕ} (e : schedule ≡ schedule_of (content s)) {known : Stretch}
+module _ {s : List ℕ} {date : Option ℕ} {plan : Plan} (p : IsPlanOf s date plan) {schedule : List ℕ} (e : schedule ≡ schedule_of (content s)) {known : Stretch}
     (c : CoversSpans (first_in schedule Planned) (last_in schedule Planned) known) (from to : ℕ) {lo hi : ℕ} (f : lo ≡ max from known.from) (g : hi ≡ min to known.to)
   where
     pub spending_narrow : spending_between (content s) lo hi ≡ spending_between (content s) from to

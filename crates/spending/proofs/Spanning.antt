@@ -1,4 +1,5 @@
 -- The spans of the planned days of an accepted book, and the days of its calendars in one table.
+use Rattle.std.specs.Prelude.{Option, ℕ}
 use Prim.Native.Nat.{ℕ, ◌+◌, ◌*◌, ◌-◌, ◌/◌, ◌≤◌, ◌<◌}
 use mathlib.Core.Path.{◌≡◌, sym, ◌∙◌, subst}
 use mathlib.Core.Bool.{true}
@@ -7,7 +8,6 @@ use native.Mathlib.Omega.{arith}
 use lib.ListN.{length}
 use Rattle.format.specs.Format as layout
 use Rattle.format.specs.Verdict.{content}
-use Rattle.fields.specs.declared.OptionalNumber.{OptionalNumber}
 use Rattle.book.specs.declared.layout.Plan.{Plan}
 use Rattle.sections.specs.Sections.{alike_in}
 use Rattle.book.specs.Plan.{IsPlanOf}
@@ -28,7 +28,7 @@ use Rattle.bydate.proofs.Showing.{row_listed}
 use Rattle.spending.specs.Charged.{AreSpans, IsScheduled}
 use Rattle.spending.proofs.Within.{budget_day}
 
-module _ {s : List ℕ} {date : OptionalNumber} {plan : Plan} (p : IsPlanOf s date plan) {schedule : List ℕ} (e : schedule ≡ schedule_of (content s)) where
+module _ {s : List ℕ} {date : Option ℕ} {plan : Plan} (p : IsPlanOf s date plan) {schedule : List ℕ} (e : schedule ≡ schedule_of (content s)) where
   activities_all : length schedule / 13 ≡ plan.activities.count
   activities_all = omega (arith, schedule_long_lem p e)
 

@@ -1,9 +1,9 @@
 -- What is charged to the budgets falls on the activities' planned days, and so within the stretch of their spans.
+use Rattle.std.specs.Prelude.{None, Option, Some}
 use Prim.Native.Nat.{ℕ, zero, suc, ◌-◌, ◌<◌}
 use mathlib.Core.Path.{◌≡◌, refl, sym, ap, ◌∙◌}
 use mathlib.Core.Bool.{Bool, true, false, true≢false, cond, ◌||◌}
 use mathlib.Core.List.{List, [], ◌∷◌, map, Memᴰ}
-use mathlib.Core.Option.{Option, none, some}
 use native.Mathlib.Omega.{arith}
 use lib.Dec.{eqb}
 use lib.IntN.{ℤ}
@@ -51,8 +51,8 @@ module _ (d : ℕ) {P : Type 0} where
   charged_over_lem book days (work x) h e = go x.resource e
     where
       go : (o : Option ℕ) → is_charged (priced_by book o x.planned days) d ≡ true → P
-      go none e = absurd (true≢false (sym e))
-      go (some r) e = charged_priced x.planned days _ h e
+      go None e = absurd (true≢false (sym e))
+      go (Some r) e = charged_priced x.planned days _ h e
   charged_over_lem book days (cost y) h e = charged_accrued y.planned days y.accrual h e
 
   charged_of : (book : Book) (i : ℕ) (days : List ℕ) (c : Charge) → (Memᴰ d days → P) → is_charged (charge_of book i days c) d ≡ true → P

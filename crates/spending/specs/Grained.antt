@@ -2,12 +2,12 @@
 use Rattle.std.specs.Prelude.{ℕ, Bool, true, List, map}
 use Rattle.model.specs.Amounts.{Dated}
 use Rattle.model.specs.TwelveMonths.{monthly, twelve_months_of, are_words}
-use Rattle.answers.specs.declared.Reply.{Reply}
 use Rattle.answers.specs.Rows.{Rows, point_row, twelve_row}
 use Rattle.answers.specs.Calls.{PutsIf}
 use Rattle.bydate.specs.Months.{by_month}
 use Rattle.spending.specs.declared.asked.Grain.{Grain}
 use Rattle.spending.specs.declared.asked.Grain.TheVariants.{Day, Month, TwelveMonths}
+use Rattle.answers.specs.Reply.{Reply}
 
 -- the points as they are, those of the months, each from its first day, or the sums of twelve months
 unfoldable pub rows_by : Grain → List Dated → Rows

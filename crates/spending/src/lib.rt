@@ -55,7 +55,7 @@ fn rows_by(
         to: earlier(between.to, known.to),
     };
     if asked.to < asked.from {
-        return Reply::Accepted(0);
+        return Ok(0);
     }
     let charges = opened.plan.assignments.count + opened.plan.expenses.count;
     if are_few(charges, opened.plan.resources.count) {
@@ -106,7 +106,7 @@ fn rows_of(book: &[u8], opened: Opened, grain: Grain, between: Stretch, out: &mu
     ensures { Writes grain (spending_between (content book.now) between.from between.to) out.old result out.new }
 {
     if opened.plan.activities.count == 0 {
-        return Reply::Accepted(0);
+        return Ok(0);
     }
     if opened.plan.activities.count <= FEW as u64 {
         return sized_rows::<416>(book, opened, grain, between, out);

@@ -7,7 +7,6 @@ ghost use Rattle.answers.specs.Rows.{costs_rows, project_cost_rows, actual_by_ki
 ghost use Rattle.answers.specs.Calls.{activity_asked, date_asked, sums_asked, Returns};
 
 use answers::give;
-use format::Answer;
 
 // Whether the book is accepted: its number, and in `at` its place.
 #[unsafe(no_mangle)]
@@ -16,12 +15,13 @@ pub extern "C" fn surukeva_verdict(book: &[u8], at: &mut u64) -> u64
 {
     let answer = book::layout::judge(book);
     match answer {
-        Answer::Accepted => {
+        Ok(()) => {
             *at = 0;
             0
         }
-        Answer::Refused(number, place) => {
-            *at = place as u64;
+        Err(refusal) => {
+            let number = u64::from(refusal.reason);
+            *at = refusal.place as u64;
             number
         }
     }

@@ -1,9 +1,9 @@
 -- The walk as a loop makes it: what is left of it at a number of the slice, and what one step takes off.
+use Rattle.std.specs.Prelude.{None, Option, Some}
 use Prim.Native.Nat.{ℕ, zero, suc, ◌+◌, ◌-◌, ◌≤◌, ◌<◌}
 use mathlib.Core.Path.{◌≡◌, refl, ap, ◌∙◌}
 use mathlib.Core.Bool.{Bool, cond}
 use mathlib.Core.List.{List, [], ◌∷◌}
-use mathlib.Core.Option.{Option, none, some}
 use native.Mathlib.Omega.{arith}
 use lib.ListN.{length, get_or, length-map}
 use borrow.Author.Tests.{lt-ltb, le-ltb}
@@ -22,7 +22,7 @@ module _ (numbers : List ℕ) where
 
   pub parent_is : (i : ℕ) → i < length numbers → parent_of (parents_of numbers) i ≡ index_of (length numbers) (get_or numbers i 0)
   unfolding parents_of
-  parent_is i h = at_map (index_of (length numbers)) numbers i 0 none h
+  parent_is i h = at_map (index_of (length numbers)) numbers i 0 None h
 
   pub walk_is : (limit from : ℕ) → from < length numbers → walk (parents_of numbers) limit from ≡ ahead limit (get_or numbers from 0)
   unfolding walk
@@ -37,12 +37,12 @@ module _ (numbers : List ℕ) where
   pub ahead_top : (limit at : ℕ) → length numbers ≤ at → ahead limit at ≡ []
   unfolding steps
   ahead_top zero at h = refl
-  ahead_top (suc limit) at h = ap (λ (b : Bool). steps (parents_of numbers) (suc limit) (cond b (some at) none)) (le-ltb at (length numbers) h)
+  ahead_top (suc limit) at h = ap (λ (b : Bool). steps (parents_of numbers) (suc limit) (cond b (Some at) None)) (le-ltb at (length numbers) h)
 
   pub ahead_suc : (limit at : ℕ) → at < length numbers → ahead (suc limit) at ≡ at ∷ ahead limit (get_or numbers at 0)
   unfolding steps
   ahead_suc limit at h =
-      ap (λ (b : Bool). steps (parents_of numbers) (suc limit) (cond b (some at) none)) (lt-ltb at (length numbers) h)
+      ap (λ (b : Bool). steps (parents_of numbers) (suc limit) (cond b (Some at) None)) (lt-ltb at (length numbers) h)
       ∙ ap (λ (o : Option ℕ). at ∷ steps (parents_of numbers) limit o) (parent_is at h)
 
   pub ahead_next : (limit made at : ℕ) → made < limit → at < length numbers → ahead (limit - made) at ≡ at ∷ ahead (limit - (made + 1)) (get_or numbers at 0)

@@ -63,11 +63,11 @@ fn put_fitting(days: &[u16; 1200], first: usize, sums: &[i64], out: &mut [u64]) 
 {
     let n = sums.len() * TWELVE_WIDTH;
     if out.len() < n {
-        return Reply::Refused(TOO_SHORT, 0);
+        return Err(TOO_SHORT);
     }
     let largest = largest_at(sums);
     put_months(days, first, largest, sums, &mut out[..n]);
-    Reply::Accepted(sums.len() as u64)
+    Ok(sums.len() as u64)
 }
 
 // The same, where all sums are numbers of 64 bits, with a slice for the sums.
@@ -85,7 +85,7 @@ fn write_sums(
     ensures { PutsIf (are_words (monthly_in table.now reach)) 11 (map twelve_row (twelve_months_of (monthly_in table.now reach))) out.old result out.new }
 {
     if !twelve_sums(days, reach, table, first, sums) {
-        return Reply::Refused(SUM_OUT_OF_RANGE, 0);
+        return Err(SUM_OUT_OF_RANGE);
     }
     put_fitting(days, first, sums, out)
 }
@@ -141,7 +141,7 @@ pub fn write_twelve_months(reach: Reach, table: &[u64], out: &mut [u64]) -> Repl
     let days = first_days();
     let listed = listed_months(&days, reach, table);
     if listed.count == 0 {
-        return Reply::Accepted(0);
+        return Ok(0);
     }
     write_listed(&days, reach, table, listed, out)
 }

@@ -1,11 +1,10 @@
 -- Rows of earned value: read from tables of figures, and as they are answered.
+use Rattle.std.specs.Prelude.{Option, option_map}
 use Prim.Native.Nat.{ℕ, ◌+◌, ◌*◌, ◌<◌}
 use native.Mathlib.Numerals.{add-one, add-two, add-three, add-four}
 use native.Mathlib.Omega.{arith}
 use mathlib.Core.Path.{◌≡◌, refl, ap, ap₂, sym, ◌∙◌}
 use mathlib.Core.List.{List, ◌∷◌, map, flat_map}
-use mathlib.Core.Option
-use mathlib.Core.Option.{Option}
 use lib.IntN.{ℤ, pos}
 use lib.ListN.{length, get_or, set, length-set, length-map}
 use lib.Seq.{sets}
@@ -35,13 +34,13 @@ five_set out at e p q r s t = rw (p, q, r, s, t, add-one at, add-two at, add-thr
 
 -- and what is spent behind them
 pub row_set :
-    (out : List ℕ) (at : ℕ) (e : Earned) {figures row : List ℕ} {share : Option ℕ} → figures ≡ sets out at (map bits (earned_figures e)) → share ≡ Option.map bits (spent_in e) →
+    (out : List ℕ) (at : ℕ) (e : Earned) {figures row : List ℕ} {share : Option ℕ} → figures ≡ sets out at (map bits (earned_figures e)) → share ≡ option_map bits (spent_in e) →
     row ≡ sets figures (at + 5) (optional share) → row ≡ sets out at (earned_row e)
 unfolding earned_row
 row_set out at e f o p =
     p
     ∙ ap₂ (λ (xs : List ℕ) (x : Option ℕ). sets xs (at + 5) (optional x)) f o
-    ∙ sets_on out at (map bits (earned_figures e)) (optional (Option.map bits (spent_in e))) (at + 5) refl
+    ∙ sets_on out at (map bits (earned_figures e)) (optional (option_map bits (spent_in e))) (at + 5) refl
 
 -- a row of a table is the figures that it was made of
 pub row_read : (f : ℕ → Earned) (n : ℕ) {table : List ℤ} → table ≡ flat_map (λ i. earned_figures (f i)) (span 0 n) → (i : ℕ) → i < n → earned_in table i ≡ f i

@@ -1,10 +1,8 @@
 // A row of earned value: of one activity from a table of figures, of the project from the leaves' sums, and as it is answered.
 #![tactic(auto)]
 
-ghost use Rattle.std.specs.Prelude.{ℕ, ◌+◌, ◌*◌, ◌≤◌, ◌<◌, ◌≡◌, map, length};
-ghost use Rattle.std.proofs.Math.Option;
+ghost use Rattle.std.specs.Prelude.{ℕ, ◌+◌, ◌*◌, ◌≤◌, ◌<◌, ◌≡◌, map, length, option_map};
 ghost use Rattle.std.proofs.lemmas.List.Edits.{sets};
-ghost use Rattle.fields.specs.Optional.{number_option};
 ghost use Rattle.format.specs.Book.{Book};
 ghost use Rattle.money.specs.Words.{bits};
 ghost use Rattle.model.specs.Tree.{parents};
@@ -16,7 +14,6 @@ ghost use Rattle.answers.specs.Rows.{earned_width, earned_row, earned_value_rows
 ghost use Rattle.value.specs.Figures.{figures, earned_in};
 
 use answers::EARNED_WIDTH;
-use fields::OptionalNumber;
 use model::Earned;
 use money::scale::spent;
 use money::words::to_bits;
@@ -53,12 +50,12 @@ fn put_figures(e: Earned, at: usize, out: &mut [u64])
 }
 
 // What is spent of the row's own budget, in two's complement.
-fn spent_bits(e: Earned) -> OptionalNumber
-    ensures { number_option result ≡ Option.map bits (spent_in e) }
+fn spent_bits(e: Earned) -> Option<u64>
+    ensures { result ≡ option_map bits (spent_in e) }
 {
     match spent(e.actual, e.budget) {
-        None => OptionalNumber::Absent,
-        Some(share) => OptionalNumber::Present(to_bits(share)),
+        None => None,
+        Some(share) => Some(to_bits(share)),
     }
 }
 

@@ -48,10 +48,10 @@ fn put_fitting(table: &[i64], lines: &[u64], count: usize, out: &mut [u64]) -> R
 {
     let n = count * OUTLINE_WIDTH;
     if out.len() < n {
-        return Reply::Refused(TOO_SHORT, 0);
+        return Err(TOO_SHORT);
     }
     put_lines(table, lines, count, &mut out[..n]);
-    Reply::Accepted(count as u64)
+    Ok(count as u64)
 }
 
 // The rows of the outline of these parents, where they fit, with slices for the tree's columns and for the lines.

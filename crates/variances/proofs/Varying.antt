@@ -1,11 +1,10 @@
 -- From the lines of the baseline to the rows of the variances.
+use Rattle.std.specs.Prelude.{None, Option, Some, unwrap_or, ℕ}
 use Prim.Native.Nat.{ℕ, ◌+◌, ◌*◌, ◌/◌, ◌<◌}
 use native.Mathlib.Omega.{arith}
 use mathlib.Core.Path.{◌≡◌, refl, sym, ap, ◌∙◌, subst}
 use mathlib.Core.Bool.{true, true≢false}
 use mathlib.Core.List.{List, [], ◌∷◌, flat_map}
-use mathlib.Core.Option
-use mathlib.Core.Option.{Option, none, some}
 use lib.IntN.{ℤ}
 use lib.ListN.{length, get_or, get_or-replicate, length-map}
 use Rattle.format.specs.Inverse.{Given}
@@ -14,7 +13,6 @@ use Rattle.format.specs.Book.{Calendar, BaselineLine, Book}
 use Rattle.format.specs.Format as layout
 use Rattle.format.specs.Verdict.{content}
 use Rattle.format.proofs.Theorems.{content_in_range}
-use Rattle.fields.specs.declared.OptionalNumber.{OptionalNumber}
 use Rattle.sections.specs.declared.Section.{Section}
 use Rattle.book.specs.declared.layout.Plan.{Plan}
 use Rattle.sections.specs.Sections.{alike_in}
@@ -48,17 +46,17 @@ use Rattle.variances.specs.Completion.{settled, Timed}
 use Rattle.variances.proofs.Changing.{row_at, row_made, changed_made}
 
 line_wide : (o : Option BaselineLine) → length (line_row o) ≡ 5
-line_wide none = refl
-line_wide (some l) = refl
+line_wide None = refl
+line_wide (Some l) = refl
 
 dated_wide : (cs : List Calendar) (schedule : List ℕ) (i : ℕ) (o : Option BaselineLine) → length (dated_by cs schedule i (line_row o)) ≡ 5
-dated_wide cs schedule i none = refl
-dated_wide cs schedule i (some l) = refl
+dated_wide cs schedule i None = refl
+dated_wide cs schedule i (Some l) = refl
 
 pub variance_wide : (o : Option Variance) → length (variance_row o) ≡ 5
 unfolding variance_row
-variance_wide none = refl
-variance_wide (some v) = refl
+variance_wide None = refl
+variance_wide (Some v) = refl
 
 -- the rows are one for each activity
 numbers_are : (b : Book) → numbers (variances_rows b) ≡ flat_map (λ i. variance_row (variance_by b i (last_line b i))) (indices (parents b))
@@ -70,8 +68,8 @@ row_varies :
     (b : Book) (schedule : List ℕ) → schedule ≡ schedule_of b → (costs : List ℤ) → costs ≡ rolled_costs b → (i : ℕ) → i < length b.activities →
     (o : Option BaselineLine) → Given (BaselineLineInRange (length b.activities)) o → settled schedule costs i (dated_by b.calendars schedule i (line_row o)) ≡ variance_row (variance_by b i o)
 unfolding variance_row variance_from calendar_of calendar_number first_date last_date
-row_varies b schedule e costs c i k none g = refl
-row_varies b schedule e costs c i k (some l) g =
+row_varies b schedule e costs c i k None g = refl
+row_varies b schedule e costs c i k (Some l) g =
     let spent : figure_of costs (i * 3 + 1) ≡ (cost_of b i).actual = rolled_at b c i 1 k (omega arith) in
     let left : figure_of costs (i * 3 + 2) ≡ (cost_of b i).remaining = rolled_at b c i 2 k (omega arith) in
     rw (
@@ -120,12 +118,12 @@ module _ (b : Book) (schedule : List ℕ) (e : schedule ≡ schedule_of b) where
 
     module _ (r : InRange b) where
       -- by what holds of the line
-      by_line_lem : (P : List ℕ → Type 0) → P (line_row none) → ((l : BaselineLine) → BaselineLineInRange (length b.activities) l → P (line_row (some l))) → (i : ℕ) → P (line_row (last_line b i))
+      by_line_lem : (P : List ℕ → Type 0) → P (line_row None) → ((l : BaselineLine) → BaselineLineInRange (length b.activities) l → P (line_row (Some l))) → (i : ℕ) → P (line_row (last_line b i))
       by_line_lem P zeros given i = go (last_line b i) (line_range b r true i)
         where
           go : (o : Option BaselineLine) → Given (BaselineLineInRange (length b.activities)) o → P (line_row o)
-          go none g = zeros
-          go (some l) g = given l g
+          go None g = zeros
+          go (Some l) g = given l g
 
       cell : (P : ℕ → Type 0) (i j : ℕ) → i < length lines / 5 → j < 5 → P (get_or (line_row (last_line b i)) j 0) → P (get_or lines (i * 5 + j) 0)
       cell P i j h l x =
@@ -189,7 +187,7 @@ module _ (b : Book) (schedule : List ℕ) (e : schedule ≡ schedule_of b) where
 
 -- ---- without a line
 
-no_line : (ls : List BaselineLine) → length ls ≡ 0 → (i : ℕ) → last_among ls i ≡ none
+no_line : (ls : List BaselineLine) → length ls ≡ 0 → (i : ℕ) → last_among ls i ≡ None
 unfolding last_among
 no_line [] h i = refl
 no_line (l ∷ ls) h i = absurd (omega arith)
@@ -200,15 +198,15 @@ module _ {s : List ℕ} {list : Section} {n : ℕ} (w : IsLines s list n) (empty
   rows_blank {out} l z =
       let b = content s in
       rows_cells 5 (λ i. variance_row (variance_by b i (last_line b i))) (λ i. variance_wide (variance_by b i (last_line b i))) (length (parents b)) 0 out (l ∙ ap (λ (m : ℕ). m * 5) (sym w.counted))
-      (λ i j h k. z (i * 5 + j) ∙ sym (ap (λ (o : Option BaselineLine). get_or (variance_row (variance_by b i o)) j 0) (no_line (Option.get_or b.baseline []) none_listed i) ∙ get_or-replicate 5 j 0 0 k))
+      (λ i j h k. z (i * 5 + j) ∙ sym (ap (λ (o : Option BaselineLine). get_or (variance_row (variance_by b i o)) j 0) (no_line (unwrap_or b.baseline []) none_listed i) ∙ get_or-replicate 5 j 0 0 k))
       ∙ sym (numbers_are b)
     where
-      none_listed : length (Option.get_or (content s).baseline []) ≡ 0
+      none_listed : length (unwrap_or (content s).baseline []) ≡ 0
       none_listed = ap length w.listed ∙ alike_length (layout.baseline_line n) s list ∙ empty
 
 -- ---- of an accepted book
 
-module _ {s : List ℕ} {date : OptionalNumber} {plan : Plan} (p : IsPlanOf s date plan) where
+module _ {s : List ℕ} {date : Option ℕ} {plan : Plan} (p : IsPlanOf s date plan) where
   pub calendars_ranged : Every CalendarInRange (alike_in layout.calendar s plan.calendars)
   calendars_ranged = subst (Every CalendarInRange) p.calendars.listed (content_in_range s p.accepted).calendars
 

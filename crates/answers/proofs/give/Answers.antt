@@ -3,10 +3,10 @@ use mathlib.Core.Path.{refl}
 use Rattle.answers.specs.Calls.{reply_number, reply_place}
 use Rattle.answers.proofs.give.Goals as goal
 
-pub returns-in-Accepted : goal.returns-in-Accepted
+pub returns-in-Ok : goal.returns-in-Ok
 unfolding reply_number reply_place
-returns-in-Accepted c = rw c.in-Accepted.is (refl, refl)
+returns-in-Ok c = rw c.in-Ok.is (refl, refl)
 
-pub returns-in-Refused : goal.returns-in-Refused
+pub returns-in-Err : goal.returns-in-Err
 unfolding reply_number reply_place
-returns-in-Refused c = rw c.in-Refused.is (refl, refl)
+returns-in-Err c = rw c.in-Err.is (c.from-number.ensures, refl)

@@ -1,8 +1,8 @@
 -- `put_alone` meets its contract: too short a slice, or one row.
+use Rattle.std.specs.Prelude.{None}
 use native.Mathlib.Omega.{arith}
 use mathlib.Core.Path.{◌≡◌, refl, sym, ap, ◌∙◌}
 use mathlib.Core.List.{flat_map, append-nil}
-use mathlib.Core.Option.{none}
 use lib.IntN.{pos}
 use lib.ListN.{length, take}
 use lib.Seq.{length-take-le}
@@ -45,7 +45,7 @@ pub returns : goal.returns
 unfolding flat_map
 returns c =
     let book = content c.args.book.now in
-    let row = budget_row (line_in c.take_ledger.new.accounts none 0 (pos 0)) in
+    let row = budget_row (line_in c.take_ledger.new.accounts None 0 (pos 0)) in
     in_front (budget_rows book) c.args.out.now (one_row (goal.at.returns c).Start) (omega (arith, c.if-out-lt10.false)) _
     (c.put_project.ensures
     ∙ sets_whole row (take 10 c.args.out.now) (row_long _ ∙ sym (length-take-le 10 c.args.out.now (omega (arith, c.if-out-lt10.false))))

@@ -1,7 +1,7 @@
 -- `dates::from_days` meets its contract.
 -- Assumes nothing.
 use Rattle.std.proofs.Common.{◌≡◌, ◌∙◌, Bool, true, false, ℤ, cond, Some, None, refl, to_z-of_z}
-use Rattle.core.specs.Bool.{then_some}
+use Rattle.std.specs.Bool.{then_some}
 use Rattle.dates.specs.Date.{is_day, from_days}
 use Rattle.dates.proofs.from_days.Goals as goal
 

@@ -1,16 +1,15 @@
 -- `indices` meets its contract: a refused book or call, or what is answered with its rows.
 use borrow.Author.Rules.{rules}
-use Rattle.answers.proofs.Replies.{asked_in_book, call_answered, call_refused}
+use Rattle.answers.proofs.Replies.{asked_in_book, asked_so, call_answered, call_refused}
 use Rattle.engine.proofs.indices.Goals as goal
 
-pub returns-then-opening : goal.returns-then-opening
-returns-then-opening c = call_refused _ _ _ _ c.open_for-opening.ensures c.if-opening.true
+pub returns-in_err-opened : goal.returns-in_err-opened
+returns-in_err-opened c = call_refused _ _ _ _ c.open_for-opened.ensures c.in_err-opened.was (search rules)
 
 pub indices_of-requires : goal.indices_of-requires
 indices_of-requires c =
-    let asked = c.open_for-opening.ensures in
-    record { opened = asked.opens c.if-opening.false; activity_lt_count = asked_in_book asked c.if-opening.false }
+    let asked = asked_so c.open_for-opened.ensures c.in_ok-opened.was in
+    record { opened = c.open_for-opened.ensures.opens _ c.in_ok-opened.was; activity_lt_count = asked_in_book asked }
 
 pub returns : goal.returns
-returns c =
-    call_answered _ _ _ _ c.open_for-opening.ensures c.if-opening.false c.indices_of.ensures
+returns c = call_answered _ _ _ _ c.open_for-opened.ensures c.in_ok-opened.was c.indices_of.ensures

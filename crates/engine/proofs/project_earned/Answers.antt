@@ -3,12 +3,11 @@ use borrow.Author.Rules.{rules}
 use Rattle.answers.proofs.Replies.{call_answered, call_refused}
 use Rattle.engine.proofs.project_earned.Goals as goal
 
-pub returns-then-opening : goal.returns-then-opening
-returns-then-opening c = call_refused _ _ _ _ (c.ask_date-opening.ensures _ _ c.open.ensures) c.if-opening.true
+pub returns-in_err-opened : goal.returns-in_err-opened
+returns-in_err-opened c = call_refused _ _ _ _ c.open_at-opened.ensures c.in_err-opened.was (search rules)
 
 pub project_earned_of-requires : goal.project_earned_of-requires
-project_earned_of-requires c = (c.ask_date-opening.ensures _ _ c.open.ensures).opens c.if-opening.false
+project_earned_of-requires c = c.open_at-opened.ensures.opens _ c.in_ok-opened.was
 
 pub returns : goal.returns
-returns c =
-    call_answered _ _ _ _ (c.ask_date-opening.ensures _ _ c.open.ensures) c.if-opening.false c.project_earned_of.ensures
+returns c = call_answered _ _ _ _ c.open_at-opened.ensures c.in_ok-opened.was c.project_earned_of.ensures

@@ -3,12 +3,11 @@ use borrow.Author.Rules.{rules}
 use Rattle.answers.proofs.Replies.{call_answered, call_refused}
 use Rattle.engine.proofs.spending.Goals as goal
 
-pub returns-then-opening : goal.returns-then-opening
-returns-then-opening c = call_refused _ _ _ _ (c.ask_date-opening.ensures _ _ (c.ask_date.ensures _ _ c.open.ensures)) c.if-opening.true
+pub returns-in_err-opened : goal.returns-in_err-opened
+returns-in_err-opened c = call_refused _ _ _ _ c.open_between-opened.ensures c.in_err-opened.was (search rules)
 
 pub spending_of-requires : goal.spending_of-requires
-spending_of-requires c = (c.ask_date-opening.ensures _ _ (c.ask_date.ensures _ _ c.open.ensures)).opens c.if-opening.false
+spending_of-requires c = c.open_between-opened.ensures.opens _ c.in_ok-opened.was
 
 pub returns : goal.returns
-returns c =
-    call_answered _ _ _ _ (c.ask_date-opening.ensures _ _ (c.ask_date.ensures _ _ c.open.ensures)) c.if-opening.false c.spending_of.ensures
+returns c = call_answered _ _ _ _ c.open_between-opened.ensures c.in_ok-opened.was c.spending_of.ensures

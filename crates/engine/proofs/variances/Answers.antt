@@ -3,12 +3,11 @@ use borrow.Author.Rules.{rules}
 use Rattle.answers.proofs.Replies.{call_answered, call_refused}
 use Rattle.engine.proofs.variances.Goals as goal
 
-pub returns-then-opening : goal.returns-then-opening
-returns-then-opening c = call_refused _ _ _ _ c.open-opening.ensures c.if-opening.true
+pub returns-in_err-opened : goal.returns-in_err-opened
+returns-in_err-opened c = call_refused _ _ _ _ c.open-opened.ensures c.in_err-opened.was (search rules)
 
 pub variances_of-requires : goal.variances_of-requires
-variances_of-requires c = c.open-opening.ensures.opens c.if-opening.false
+variances_of-requires c = c.open-opened.ensures.opens _ c.in_ok-opened.was
 
 pub returns : goal.returns
-returns c =
-    call_answered _ _ _ _ c.open-opening.ensures c.if-opening.false c.variances_of.ensures
+returns c = call_answered _ _ _ _ c.open-opened.ensures c.in_ok-opened.was c.variances_of.ensures

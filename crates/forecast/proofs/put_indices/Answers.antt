@@ -1,8 +1,8 @@
 -- `put_indices` meets its contract: an index behind the other.
+use Rattle.std.specs.Prelude.{Option}
 use Prim.Native.Nat.{ℕ}
 use mathlib.Core.Path.{refl, ap₂, ◌∙◌}
 use mathlib.Core.List.{List}
-use mathlib.Core.Option.{Option}
 use lib.Seq.{sets}
 use Rattle.rows.specs.Rows.{optional}
 use Rattle.forecast.proofs.Put.{indices_put}

@@ -9,13 +9,13 @@ use Rattle.report.proofs.put_earned.Goals as goal
 pub put_accepted-requires : goal.put_accepted-requires
 put_accepted-requires c =
     record {
-      earned_in = earned_in_lem _ (λ i. omega (arith, c.type_inv.book i)) c.asked_date-day.ensures c.earned_value-reply.ensures (search rules) (search rules) c.in-Accepted.is;
+      earned_in = earned_in_lem _ (λ i. omega (arith, c.type_inv.book i)) c.asked_date-day.ensures c.earned_value-reply.ensures (search rules) (search rules) c.in-Ok.is;
       in_bounds = search rules;
     }
 
-pub returns-in-Refused : goal.returns-in-Refused
-returns-in-Refused c =
-    let refused = earned_refused _ (λ i. omega (arith, c.type_inv.book i)) c.asked_date-day.ensures c.earned_value-reply.ensures (search rules) c.in-Refused.is in
+pub returns-in-Err : goal.returns-in-Err
+returns-in-Err c =
+    let refused = earned_refused _ (λ i. omega (arith, c.type_inv.book i)) c.asked_date-day.ensures c.earned_value-reply.ensures (search rules) c.in-Err.is in
     record {
       upper_bound = search rules;
       out_after = c.put_refusal.ensures.out_after ∙ refused_page _ refused;

@@ -4,10 +4,10 @@ use native.Mathlib.Numerals.{add-one}
 use Rattle.rows.specs.Rows.{optional}
 use Rattle.rows.proofs.put_optional.Goals as goal
 
-pub returns-in-Absent : goal.returns-in-Absent
+pub returns-in-None : goal.returns-in-None
 unfolding optional
-returns-in-Absent c = rw (c.in-Absent.is, add-one c.args.at) refl
+returns-in-None c = rw (c.in-None.is, add-one c.args.at) refl
 
-pub returns-in-Present : goal.returns-in-Present
+pub returns-in-Some : goal.returns-in-Some
 unfolding optional
-returns-in-Present c = rw (c.in-Present.is, add-one c.args.at) refl
+returns-in-Some c = rw (c.in-Some.is, add-one c.args.at) refl

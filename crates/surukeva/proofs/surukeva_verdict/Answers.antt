@@ -4,10 +4,10 @@ use borrow.Author.Rules.{rules}
 use Rattle.format.specs.Verdict.{answer_number, answer_place}
 use Rattle.surukeva.proofs.surukeva_verdict.Goals as goal
 
-pub returns-in-Accepted : goal.returns-in-Accepted
+pub returns-in-Ok : goal.returns-in-Ok
 unfolding answer_number answer_place
-returns-in-Accepted c = rw (← c.judge-answer.ensures, c.in-Accepted.is) (refl, refl)
+returns-in-Ok c = rw (← c.judge-answer.ensures, c.in-Ok.is) (refl, refl)
 
-pub returns-in-Refused : goal.returns-in-Refused
+pub returns-in-Err : goal.returns-in-Err
 unfolding answer_number answer_place
-returns-in-Refused c = rw (← c.judge-answer.ensures, c.in-Refused.is) (refl, refl)
+returns-in-Err c = rw (← c.judge-answer.ensures, c.in-Err.is) (c.from-number.ensures, refl)

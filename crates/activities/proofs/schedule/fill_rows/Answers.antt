@@ -6,7 +6,6 @@ use lib.ListN.{length}
 use lib.Seq.{sets}
 use borrow.Author.Rules.{rules}
 use Rattle.format.specs.Format.{activity}
-use Rattle.fields.specs.Optional.{number_option}
 use Rattle.sections.specs.Sections.{elements}
 use Rattle.activities.specs.Schedule.{schedule_row}
 use Rattle.activities.proofs.Rows.{FilledRows, rows_none, rows_more, rows_end}

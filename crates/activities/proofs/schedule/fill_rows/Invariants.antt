@@ -6,7 +6,6 @@ use lib.ListN.{length}
 use lib.Seq.{sets}
 use borrow.Author.Rules.{rules}
 use Rattle.format.specs.Format.{activity}
-use Rattle.fields.specs.Optional.{number_option}
 use Rattle.sections.specs.Sections.{elements}
 use Rattle.activities.specs.Schedule.{schedule_row}
 use Rattle.activities.proofs.Rows.{FilledRows, rows_none, rows_more, rows_end}
@@ -15,4 +14,4 @@ use Rattle.activities.proofs.schedule.fill_rows.Given as goal
 
 abbrev pub invariant-loop-i : goal.invariant-loop-i
 invariant-loop-i l =
-    FilledRows (activity l.calendars l.list.count) (schedule_row (number_option l.date)) 13 l.book l.list.count l.initial.next l.i l.next l.out
+    FilledRows (activity l.calendars l.list.count) (schedule_row l.date) 13 l.book l.list.count l.initial.next l.i l.next l.out

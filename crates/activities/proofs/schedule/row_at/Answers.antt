@@ -3,7 +3,6 @@ use mathlib.Core.Path.{sym, ap, ap₂, ◌∙◌}
 use mathlib.Core.List.{List}
 use lib.ListN.{get_or}
 use borrow.Author.Rules.{rules}
-use Rattle.format.specs.declared.Pos.{Pos}
 use Rattle.format.specs.Book.{Activity}
 use Rattle.format.specs.Format as layout
 use Rattle.sections.specs.Sections.{elements}
@@ -11,6 +10,7 @@ use Rattle.model.specs.Lookup.{no_activity}
 use Rattle.activities.specs.Schedule.{schedule_row}
 use Rattle.activities.proofs.Rows.{element_at}
 use Rattle.activities.proofs.schedule.row_at.Goals as goal
+use Rattle.format.specs.Position.{Pos}
 
 pub returns : goal.returns
 unfolding elements

@@ -1,18 +1,18 @@
 -- `read_baseline` meets its contract: its mark, and its lines where the mark is 1.
+use Rattle.std.specs.Prelude.{None, Some}
 use mathlib.Core.Path.{◌≡◌, refl}
 use mathlib.Core.Bool.{true, false}
 use mathlib.Core.List.{List}
-use mathlib.Core.Option.{none, some}
 use Prim.Native.Nat.{ℕ}
 use lib.Dec.{eqb}
 use borrow.Author.Tests.{eq-eqb, ne_eqb}
-use Rattle.format.specs.declared.Pos.{Pos}
 use Rattle.format.specs.Reader.{given, mapped, both}
 use Rattle.format.specs.Field.{U}
 use Rattle.format.specs.Codec.{Codec, field, marked, when, iso, ◌then◌}
 use Rattle.book.specs.Layout.{lines_of}
 use Rattle.sections.proofs.Lists.{up_to_read}
 use Rattle.book.proofs.layout.read_baseline.Goals as goal
+use Rattle.format.specs.Position.{Pos}
 
 -- the mark, then what it says
 marked_read :
@@ -22,11 +22,11 @@ unfolding marked iso ◌then◌ mapped both
 marked_read c s p = refl
 
 module _ {A : Type 0} (c : Codec A) (s : List ℕ) (p : Pos) {m : ℕ} {mid : Pos} (e : (m, mid) ≡ (field (U 0 1)).read s p) where
-  there : eqb m 1 ≡ true → {v : A} {end : Pos} → (v, end) ≡ c.read s mid → (some v, end) ≡ (marked c).read s p
+  there : eqb m 1 ≡ true → {v : A} {end : Pos} → (v, end) ≡ c.read s mid → (Some v, end) ≡ (marked c).read s p
   unfolding when given
   there t h = rw (marked_read c s p, ← e, t, ← h)
 
-  absent : eqb m 1 ≡ false → (none, mid) ≡ (marked c).read s p
+  absent : eqb m 1 ≡ false → (None, mid) ≡ (marked c).read s p
   unfolding when given
   absent t = rw (marked_read c s p, ← e, t)
 

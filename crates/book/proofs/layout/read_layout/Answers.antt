@@ -2,7 +2,6 @@
 use Prim.Native.Nat.{ℕ}
 use mathlib.Core.Path.{◌≡◌, ap}
 use mathlib.Core.List.{List}
-use Rattle.format.specs.declared.Pos.{Pos}
 use Rattle.format.specs.Book.{Book}
 use Rattle.format.specs.Verdict.{content, verdict}
 use Rattle.book.specs.declared.layout.Layout.{Layout}
@@ -10,6 +9,7 @@ use Rattle.book.specs.Layout.{IsLayout, book_of}
 use Rattle.sections.proofs.Limits.{count_most}
 use Rattle.book.proofs.Whole.{layout_book}
 use Rattle.book.proofs.layout.read_layout.Goals as goal
+use Rattle.format.specs.Position.{Pos}
 
 pub read_ledger-ledger-requires : goal.read_ledger-ledger-requires
 read_ledger-ledger-requires c = rw (ap (λ v. v.0) c.read_plan-plan.ensures.activities.lead) (count_most 0 500 _ _)

@@ -3,10 +3,10 @@ use Rattle.format.specs.Format.{names}
 use borrow.Author.Rules.{rules}
 use Rattle.budget.proofs.project.is_project.Goals as goal
 
-pub returns-in-Absent : goal.returns-in-Absent
+pub returns-in-None : goal.returns-in-None
 unfolding names
-returns-in-Absent c = rw c.in-Absent.is
+returns-in-None c = rw c.in-None.is
 
-pub returns-in-Present : goal.returns-in-Present
+pub returns-in-Some : goal.returns-in-Some
 unfolding names
-returns-in-Present c = search rules
+returns-in-Some c = search rules

@@ -1,6 +1,6 @@
 -- `project_changes` meets its contract: one change a turn.
+use Rattle.std.specs.Prelude.{None}
 use mathlib.Core.Path.{◌∙◌}
-use mathlib.Core.Option.{none}
 use lib.IntN.{pos}
 use mir.Syntax.{w64}
 use Rattle.integer.specs.Linear.{back}
@@ -33,4 +33,4 @@ returns c =
     let l = c.loop in
     let log = (content c.args.book.now).log in
     folded_end l.invariant.1 (reading_end l.invariant.0 c.loop-test.false)
-    ∙ saturated_kept (is_change none Approved) (λ (x : BudgetChange). x.amount) (pos 0) log
+    ∙ saturated_kept (is_change None Approved) (λ (x : BudgetChange). x.amount) (pos 0) log

@@ -1,5 +1,5 @@
 -- `project_changes` meets its contract: one change a turn.
-use mathlib.Core.Option.{none}
+use Rattle.std.specs.Prelude.{None}
 use lib.IntN.{pos}
 use Rattle.format.specs.declared.ChangeStatus.TheVariants.{Approved}
 use Rattle.format.specs.Codec.{stay}
@@ -12,4 +12,4 @@ use Rattle.budget.proofs.project.project_changes.Given as goal
 abbrev pub invariant-loop : goal.invariant-loop
 invariant-loop l =
     Reading (λ (x : Unit {0}). budget_change l.activities) stay l.book (content l.book).log l.count l.counter tt l.next
-    × Folded (added_to none Approved) (pos 0) (content l.book).log l.counter l.sum
+    × Folded (added_to None Approved) (pos 0) (content l.book).log l.counter l.sum

@@ -5,8 +5,8 @@ use borrow.Author.Rules.{rules}
 use Rattle.integer.specs.Linear.{back}
 use Rattle.earned.proofs.performance.amount_or_zero.Goals as goal
 
-pub returns-in-Absent : goal.returns-in-Absent
-returns-in-Absent c = rw c.in-Absent.is refl
+pub returns-in-None : goal.returns-in-None
+returns-in-None c = rw c.in-None.is refl
 
-pub returns-in-Present : goal.returns-in-Present
-returns-in-Present c = rw c.in-Present.is (back w64 _ c.in-Present.known_told-1-own.given.0.1)
+pub returns-in-Some : goal.returns-in-Some
+returns-in-Some c = rw c.in-Some.is (back w64 _ c.in-Some.known_told-1-own.given.0.1)

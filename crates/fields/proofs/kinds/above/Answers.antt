@@ -5,12 +5,12 @@ use Rattle.fields.proofs.kinds.above.Goals as goal
 
 pub returns-then-before-d : goal.returns-then-before-d
 unfolding tested
-returns-then-before-d c = rw (c.in-At.is, lt-ltb _ _ c.if-before-d.true)
+returns-then-before-d c = rw (c.in-Ok.is, lt-ltb _ _ c.if-before-d.true)
 
 pub returns-else-before-d : goal.returns-else-before-d
 unfolding tested
-returns-else-before-d c = rw (c.in-At.is, le-ltb _ _ c.if-before-d.false)
+returns-else-before-d c = rw (c.in-Ok.is, le-ltb _ _ c.if-before-d.false)
 
-pub returns-in-Refused : goal.returns-in-Refused
+pub returns-in-Err : goal.returns-in-Err
 unfolding tested
-returns-in-Refused c = rw c.in-Refused.is
+returns-in-Err c = rw c.in-Err.is

@@ -4,12 +4,12 @@ use Rattle.fields.proofs.Common.{any_few}
 use Rattle.fields.proofs.kinds.any_number.Goals as goal
 
 pub returns-in-Some : goal.returns-in-Some
-returns-in-Some c = rw c.in-At.is (any_few _ _ c.in-Some.n c.in-Some.ensures)
+returns-in-Some c = rw c.in-Ok.is (any_few _ _ c.in-Some.n c.in-Some.ensures)
 
 pub returns-in_default : goal.returns-in_default
 unfolding number
-returns-in_default c = rw (c.in-At.is, ← c.number.ensures) c.found.ensures
+returns-in_default c = rw (c.in-Ok.is, ← c.number.ensures) c.found.ensures
 
-pub returns-in-Refused : goal.returns-in-Refused
+pub returns-in-Err : goal.returns-in-Err
 unfolding number
-returns-in-Refused c = rw c.in-Refused.is
+returns-in-Err c = rw c.in-Err.is

@@ -1,7 +1,6 @@
 -- `account_number` meets its contract: a place of the marks.
-use Rattle.fields.specs.Optional.{number_option}
 use Rattle.sections.proofs.Marks.{place_below}
 use Rattle.ledger.proofs.accounts.account_number.Goals as goal
 
 pub returns : goal.returns
-returns c = (c.mark_of.ensures, place_below (number_option c.args.account) c.mark_of.ensures)
+returns c = (c.mark_of.ensures, place_below c.args.account c.mark_of.ensures)

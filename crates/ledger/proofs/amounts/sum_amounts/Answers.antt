@@ -8,7 +8,6 @@ use mir.Syntax.{w64}
 use mir.Val.{to_z}
 use Rattle.integer.specs.Linear.{back}
 use Rattle.integer.specs.Folds.{saturated}
-use Rattle.format.specs.declared.Pos.{Pos}
 use Rattle.format.specs.Codec.{alike, stay}
 use Rattle.format.specs.Format.{amount}
 use Rattle.sections.specs.Sections.{elements}
@@ -17,6 +16,7 @@ use Rattle.ledger.proofs.Reading.{Reading, reading_none, reading_more, reading_n
 use borrow.Author.Rules.{rules}
 use Rattle.ledger.proofs.amounts.sum_amounts.Invariants.{listed}
 use Rattle.ledger.proofs.amounts.sum_amounts.Goals as goal
+use Rattle.format.specs.Position.{Pos}
 
 pub loop-init : goal.loop-init
 unfolding elements

@@ -8,7 +8,6 @@ use mir.Syntax.{w64}
 use mir.Val.{to_z}
 use Rattle.integer.specs.Linear.{back}
 use Rattle.integer.specs.Folds.{saturated}
-use Rattle.format.specs.declared.Pos.{Pos}
 use Rattle.format.specs.Codec.{alike, stay}
 use Rattle.format.specs.Format.{amount}
 use Rattle.sections.specs.Sections.{elements}
@@ -16,6 +15,7 @@ use Rattle.tree.specs.Figures.{saturating_add}
 use Rattle.ledger.proofs.Reading.{Reading, reading_none, reading_more, reading_next, reading_end}
 use borrow.Author.Rules.{rules}
 use Rattle.ledger.proofs.amounts.sum_amounts.Given as goal
+use Rattle.format.specs.Position.{Pos}
 
 abbrev pub listed : List ℕ → ℕ → Pos → List ℤ
 listed book count first = ((alike count amount).read book first).0

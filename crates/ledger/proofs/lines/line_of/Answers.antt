@@ -1,8 +1,8 @@
 -- `line_of` meets its contract: the steps of the walk are counted.
+use Rattle.std.specs.Prelude.{Some}
 use Prim.Native.Nat.{ℕ, ◌+◌, ◌*◌}
 use native.Mathlib.Omega.{arith}
 use mathlib.Core.Path.{ap, ap₂, ◌∙◌}
-use mathlib.Core.Option.{some}
 use lib.ListN.{length}
 use mir.Syntax.{w64}
 use Rattle.integer.specs.Linear.{back}
@@ -19,4 +19,4 @@ pub returns : goal.returns
 unfolding activity_line
 returns c =
     c.line_at.ensures
-    ∙ ap₂ (line_in c.args.accounts.now (some c.args.i)) (ap (λ (k : ℕ). 1 + k) c.walk_up-steps.ensures) (back w64 (figure_of c.args.costs.now (c.args.i * 3)) c.scheduled-1.given)
+    ∙ ap₂ (line_in c.args.accounts.now (Some c.args.i)) (ap (λ (k : ℕ). 1 + k) c.walk_up-steps.ensures) (back w64 (figure_of c.args.costs.now (c.args.i * 3)) c.scheduled-1.given)

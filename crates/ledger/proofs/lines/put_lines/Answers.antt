@@ -1,11 +1,11 @@
 -- `put_lines` meets its contract: the project's line, then one line a turn where an activity is marked.
+use Rattle.std.specs.Prelude.{None}
 use Prim.Native.Nat.{◌-◌}
 use native.Mathlib.Omega.{arith}
 use mathlib.Core.Path.{◌≡◌, refl, sym, ap, ◌∙◌}
 use mathlib.Core.Bool.{not}
 use mathlib.Core.List.{map, flat_map}
 use mathlib.Core.Logic.{⊎_elim}
-use mathlib.Core.Option.{none}
 use lib.IntN.{ℤ}
 use lib.ListN.{length}
 use lib.Seq.{sets}
@@ -37,7 +37,7 @@ loop-i-init c =
     let test = is_marked c.args.marks.now in
     let n = length c.args.parents.now in
     let first = writing_none 10 budget_row (lines_in c.args.accounts.now c.args.parents.now c.args.costs.now c.args.marks.now (seen w64 c.args.whole)) row_long c.args.out.now c.requires.out_len in
-    writing_past (writing_more first refl (row_long (line_in c.args.accounts.now none 0 (seen w64 c.args.whole))) refl
+    writing_past (writing_more first refl (row_long (line_in c.args.accounts.now None 0 (seen w64 c.args.whole))) refl
     c.put_project.ensures) (ap (map line) (sym (onward_first test n))) refl refl
 
 pub put_line-requires : goal.put_line-requires

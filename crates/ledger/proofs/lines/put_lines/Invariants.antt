@@ -1,11 +1,11 @@
 -- `put_lines` meets its contract: the project's line, then one line a turn where an activity is marked.
+use Rattle.std.specs.Prelude.{None}
 use Prim.Native.Nat.{◌-◌}
 use native.Mathlib.Omega.{arith}
 use mathlib.Core.Path.{◌≡◌, refl, sym, ap, ◌∙◌}
 use mathlib.Core.Bool.{not}
 use mathlib.Core.List.{map, flat_map}
 use mathlib.Core.Logic.{⊎_elim}
-use mathlib.Core.Option.{none}
 use lib.IntN.{ℤ}
 use lib.ListN.{length}
 use lib.Seq.{sets}

@@ -1,8 +1,8 @@
 -- `row_of` meets its contract: the activity, the depth, five amounts, and what is scheduled.
+use Rattle.std.specs.Prelude.{None, Option, Some}
 use Prim.Native.Nat.{ℕ, ◌^◌, ◌<◌}
 use mathlib.Core.Path.{◌≡◌, ap, ◌∙◌}
 use mathlib.Core.List.{List, [], ◌∷◌, ◌++◌}
-use mathlib.Core.Option.{Option, none, some}
 use lib.IntN.{ℤ}
 use lib.ListN.{get_or}
 use lib.Signed.{mag}
@@ -10,7 +10,6 @@ use mir.Syntax.{w64}
 use mir.Val.{hbits}
 use Rattle.integer.specs.Linear.{seen, back}
 use Rattle.money.specs.Words.{bits}
-use Rattle.fields.specs.Optional.{number_option}
 use Rattle.rows.specs.Rows.{optional}
 use Rattle.answers.specs.Rows.{budget_row}
 use Rattle.ledger.specs.Lines.{line_of}
@@ -22,16 +21,16 @@ bits_of z e h = e ∙ ap bits (back w64 z h)
 
 -- a pair, and the numbers behind it
 paired : (o : Option ℕ) {pair : List ℕ} → pair ≡ optional o → (depth : ℕ) {a b c d e f a' b' c' d' e' f' : ℕ} → a ≡ a' → b ≡ b' → c ≡ c' → d ≡ d' → e ≡ e' → f ≡ f' →
-    get_or pair 0 0 ∷ get_or pair 1 0 ∷ depth ∷ a ∷ b ∷ c ∷ d ∷ e ∷ 1 ∷ f ∷ [] ≡ optional o ++ (depth ∷ a' ∷ b' ∷ c' ∷ d' ∷ e' ∷ optional (some f'))
+    get_or pair 0 0 ∷ get_or pair 1 0 ∷ depth ∷ a ∷ b ∷ c ∷ d ∷ e ∷ 1 ∷ f ∷ [] ≡ optional o ++ (depth ∷ a' ∷ b' ∷ c' ∷ d' ∷ e' ∷ optional (Some f'))
 unfolding optional
-paired none g depth e₀ e₁ e₂ e₃ e₄ e₅ = rw (g, e₀, e₁, e₂, e₃, e₄, e₅)
-paired (some n) g depth e₀ e₁ e₂ e₃ e₄ e₅ = rw (g, e₀, e₁, e₂, e₃, e₄, e₅)
+paired None g depth e₀ e₁ e₂ e₃ e₄ e₅ = rw (g, e₀, e₁, e₂, e₃, e₄, e₅)
+paired (Some n) g depth e₀ e₁ e₂ e₃ e₄ e₅ = rw (g, e₀, e₁, e₂, e₃, e₄, e₅)
 
 pub returns : goal.returns
 unfolding budget_row line_of
 returns c =
     let line = c.args.line in
-    paired (number_option line.activity) c.optional_pair-pair.ensures line.depth
+    paired line.activity c.optional_pair-pair.ensures line.depth
     (bits_of line.original c.to_bits.ensures c.struct_told-1.given.1.1.0.1)
     (bits_of line.current c.to_bits-2.ensures c.struct_told-2-1.given.1.1.1.0.1)
     (bits_of line.proposed c.to_bits-3.ensures c.struct_told-3-1.given.1.1.1.1.0.1)

@@ -4,12 +4,12 @@ use Rattle.records.proofs.budgets.named_once.Goals as goal
 
 pub returns-then-new : goal.returns-then-new
 unfolding tested
-returns-then-new c = rw (c.in-At.is, c.if-new.true)
+returns-then-new c = rw (c.in-Ok.is, c.if-new.true)
 
 pub returns-else-new : goal.returns-else-new
 unfolding tested
-returns-else-new c = rw (c.in-At.is, c.if-new.false)
+returns-else-new c = rw (c.in-Ok.is, c.if-new.false)
 
-pub returns-in-Refused : goal.returns-in-Refused
+pub returns-in-Err : goal.returns-in-Err
 unfolding tested
-returns-in-Refused c = rw c.in-Refused.is
+returns-in-Err c = rw c.in-Err.is

@@ -10,21 +10,21 @@ pub put_outline_rows-requires : goal.put_outline_rows-requires
 put_outline_rows-requires c =
     let bytes : Bytes c.args.book.now = λ i. omega (arith, c.type_inv.book i) in
     let asked = c.asked_date-day.ensures in record {
-      outline_width_in_bounds = outline_room _ bytes asked c.outline-reply.ensures c.in-Accepted.is (search rules);
-      count_in_bounds = omega (arith, outline_few _ bytes asked c.outline-reply.ensures c.in-Accepted.is, c.requires);
+      outline_width_in_bounds = outline_room _ bytes asked c.outline-reply.ensures c.in-Ok.is (search rules);
+      count_in_bounds = omega (arith, outline_few _ bytes asked c.outline-reply.ensures c.in-Ok.is, c.requires);
     }
 
-pub returns-in-Accepted : goal.returns-in-Accepted
-returns-in-Accepted c =
+pub returns-in-Ok : goal.returns-in-Ok
+returns-in-Ok c =
     let bytes : Bytes c.args.book.now = λ i. omega (arith, c.type_inv.book i) in
     let asked = c.asked_date-day.ensures in record {
-      upper_bound = omega (arith, c.put_outline_rows.ensures.upper_bound, outline_few _ bytes asked c.outline-reply.ensures c.in-Accepted.is);
-      out_after = c.put_outline_rows.ensures.out_after ∙ outline_lines_lem _ bytes asked c.outline-reply.ensures c.in-Accepted.is;
+      upper_bound = omega (arith, c.put_outline_rows.ensures.upper_bound, outline_few _ bytes asked c.outline-reply.ensures c.in-Ok.is);
+      out_after = c.put_outline_rows.ensures.out_after ∙ outline_lines_lem _ bytes asked c.outline-reply.ensures c.in-Ok.is;
     }
 
-pub returns-in-Refused : goal.returns-in-Refused
-returns-in-Refused c =
+pub returns-in-Err : goal.returns-in-Err
+returns-in-Err c =
     record {
       upper_bound = search rules;
-      out_after = c.put_refusal.ensures.out_after ∙ outline_refused _ (λ i. omega (arith, c.type_inv.book i)) c.asked_date-day.ensures c.outline-reply.ensures (search rules) c.in-Refused.is;
+      out_after = c.put_refusal.ensures.out_after ∙ outline_refused _ (λ i. omega (arith, c.type_inv.book i)) c.asked_date-day.ensures c.outline-reply.ensures (search rules) c.in-Err.is;
     }

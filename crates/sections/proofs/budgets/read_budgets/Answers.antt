@@ -5,7 +5,6 @@ use mathlib.Core.Path.{◌≡◌, ap, sym, subst}
 use mathlib.Core.List.{[], ◌∷◌}
 use lib.Dec.{eqb}
 use lib.ListN.{get_or}
-use Rattle.fields.specs.Optional.{number_option}
 use Rattle.format.specs.Field.{index}
 use Rattle.format.specs.Codec.{O}
 use Rattle.format.specs.Format.{is_new, budget}
@@ -19,10 +18,10 @@ pub loop-init : goal.loop-init
 loop-init c = ([], (going_none _ _ _ _ _ _, none_marked))
 
 at_mark : (c : After-mark_of-k) → c.mark_of-k.result < 501
-at_mark c = place_below (number_option c.optional_index-named.result.value) c.mark_of-k.ensures
+at_mark c = place_below c.optional_index-named.result.value c.mark_of-k.ensures
 
 at_mark2 : (c : After-mark_of-j) → c.mark_of-j.result < 501
-at_mark2 c = place_below (number_option c.read_budget-b.result.activity) c.mark_of-j.ensures
+at_mark2 c = place_below c.read_budget-b.result.activity c.mark_of-j.ensures
 
 pub offset_bounds-marks-k : goal.offset_bounds-marks-k
 offset_bounds-marks-k c = omega (arith, at_mark (goal.at.offset_bounds-marks-k c).After-mark_of-k)
@@ -44,9 +43,9 @@ loop-preserved c =
     let bytes = c.args.book.now in
     let before = l.invariant.0 in
     let read = ((O (index n)).read bytes l.next).0 in
-    let name = number_option c.read_budget-b.result.activity in
+    let name = c.read_budget-b.result.activity in
     let small : Small read = index_small n bytes l.next c.requires in
-    let named : number_option c.optional_index-named.result.value ≡ read = ap (λ v. v.0) c.optional_index-named.ensures in
+    let named : c.optional_index-named.result.value ≡ read = ap (λ v. v.0) c.optional_index-named.ensures in
     let new : eqb (get_or l.marks c.mark_of-k.result 0) 0 ≡ is_new before read = rw (c.mark_of-k.ensures, named) (sym (l.invariant.1.1.same _ small)) in
     let b = c.read_budget-b.ensures before new in
     let its : name ≡ ((budget n before).read bytes l.next).0.activity = ap (λ v. v.0.activity) b in

@@ -1,7 +1,7 @@
 -- `read_budgets` meets its contract: what is marked is what a budget before names.
+use Rattle.std.specs.Prelude.{Option}
 use Prim.Native.Nat.{ℕ}
 use mathlib.Core.List.{List, [], ◌∷◌}
-use mathlib.Core.Option.{Option}
 use Rattle.format.specs.Book as book
 use Rattle.format.specs.Format.{budget}
 use Rattle.sections.proofs.Lists.{Going}

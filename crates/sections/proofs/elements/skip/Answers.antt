@@ -1,7 +1,7 @@
 -- `skip` meets its contract: each kind of element is read by its own reader.
 use mathlib.Core.Path.{◌≡◌, ap}
-use Rattle.format.specs.declared.Pos.{Pos}
 use Rattle.sections.proofs.elements.skip.Goals as goal
+use Rattle.format.specs.Position.{Pos}
 
 -- where reading goes on
 next_is : {A : Type 0} {v : A} {q : Pos} {r : A × Pos} → (v, q) ≡ r → q ≡ r.1
