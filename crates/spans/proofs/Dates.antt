@@ -7,7 +7,6 @@ use Rattle.std.specs.Option.{option_or}
 
 -- the first, else the second, else the third
 pub first_given : (a b : Option ℕ) (d : ℕ) → unwrap_or a (unwrap_or b d) ≡ unwrap_or (option_or a b) d
-unfolding
 first_given None b d = refl
 first_given (Some n) b d = refl
 

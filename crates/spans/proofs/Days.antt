@@ -35,7 +35,6 @@ given_date None h k = absurd (omega arith)
 given_date (Some d) h k = h
 
 or_else_date : (a b : Option ℕ) → Given IsDate a → Given IsDate b → Given IsDate (option_or a b)
-unfolding
 or_else_date None b h k = k
 or_else_date (Some d) b h k = h
 
