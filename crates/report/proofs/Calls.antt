@@ -84,7 +84,7 @@ module _ (s : List ℕ) (bytes : Bytes s) {day : ℕ} (asked : day ≡ asked_at 
         }
 
     -- it is refused where the book is
-    pub earned_refused : {e p : ℕ} → r ≡ Err e → verdict s ≡ Err e
+    pub earned_refused : {e : Refusal} → r ≡ Err e → verdict s ≡ Err e
     earned_refused e =
         book_refuses (at_date day) (earned_value_rows day) s (length out)
         (λ j v.
@@ -125,7 +125,7 @@ module _ (s : List ℕ) (bytes : Bytes s) {day : ℕ} (asked : day ≡ asked_at 
         ∙ ap (λ (p : Pos). outlined_at p (content s)) (sym (accepted_book (at_date day) (outline_rows day) s out outlined).1)
 
   -- it is refused where the book is
-  pub outline_refused : length out ≡ 500 * outline_width → {e p : ℕ} → r ≡ Err e → refusal_line e p ≡ outline_text s
+  pub outline_refused : length out ≡ 500 * outline_width → {e : Refusal} → r ≡ Err e → refusal_line e ≡ outline_text s
   unfolding outline_text
   outline_refused size e =
       ap (λ (p : Pos). outlined_at p (content s))
@@ -177,7 +177,7 @@ module _ (s : List ℕ) (from to : ℕ) {out after : List ℕ} {r : Reply} (a : 
         ∙ points_in_lem (planned_curve_between (content s) from to) (drop (length (numbers (planned_curve_rows from to (content s)))) out)
 
   -- it is refused where the book is
-  pub curve_refused : 10957 ≤ from → to ≤ 47481 → from ≤ to → (to + 1 - from) * 2 ≤ length out → {e p : ℕ} → r ≡ Err e → verdict s ≡ Err e
+  pub curve_refused : 10957 ≤ from → to ≤ 47481 → from ≤ to → (to + 1 - from) * 2 ≤ length out → {e : Refusal} → r ≡ Err e → verdict s ≡ Err e
   curve_refused f t order room e =
       book_refuses (between from to) (planned_curve_rows from to) s (length out)
       (λ j v.

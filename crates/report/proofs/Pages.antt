@@ -9,7 +9,8 @@ use Rattle.format.specs.Verdict.{verdict, content}
 use Rattle.report.specs.Lines.{refusal_line, activity_lines}
 use Rattle.report.specs.Status.{asked_at, total_line, earned_text, curve_text, text_at, status_text, EarnedIn, page_at, status_page}
 use Rattle.report.proofs.Stretches.{joined}
-use Rattle.format.specs.Position.{Pos, refused}
+use Rattle.format.specs.Position.{Pos}
+use Rattle.format.specs.declared.Refusal.{Refusal}
 
 -- the text is its four pages, one behind the other
 pub status_pages : (s : List ℕ) → status_text s ≡ flat_map (status_page s) (span 0 4)
@@ -17,7 +18,7 @@ unfolding status_text status_page flat_map span
 status_pages s = go (verdict s)
   where
     go : (p : Pos) → text_at p (content s) ≡ page_at p (content s) 0 ++ (page_at p (content s) 1 ++ (page_at p (content s) 2 ++ (page_at p (content s) 3 ++ [])))
-    go (refused number place) = sym (append-nil (refusal_line number place))
+    go (Err e) = sym (append-nil (refusal_line e))
     go (Ok i) =
         let b = content s in
         ap (λ (t : List ℕ). earned_text b (asked_at b.data_date) ++ t)
@@ -28,11 +29,11 @@ status_pages s = go (verdict s)
 
 -- ---- what a page is, by the verdict
 module _ (s : List ℕ) where
-  pub refused_page : {e p : ℕ} → verdict s ≡ Err e → refusal_line e p ≡ status_page s 0
+  pub refused_page : {e : Refusal} → verdict s ≡ Err e → refusal_line e ≡ status_page s 0
   unfolding status_page
   refused_page v = ap (λ (q : Pos). page_at q (content s) 0) (sym v)
 
-  pub refused_pages : {e p : ℕ} → verdict s ≡ Err e → (k : ℕ) → [] ≡ status_page s (suc k)
+  pub refused_pages : {e : Refusal} → verdict s ≡ Err e → (k : ℕ) → [] ≡ status_page s (suc k)
   unfolding status_page
   refused_pages v k = ap (λ (q : Pos). page_at q (content s) (suc k)) (sym v)
 

@@ -54,7 +54,7 @@ status_text s = text_at (verdict s) (content s)
 
 abbrev pub page_at : Pos → Book → ℕ → List ℕ
 page_at (Err e) book zero = refusal_line e
-page_at (refused number place) book (suc k) = []
+page_at (Err e) book (suc k) = []
 page_at (Ok i) book zero = earned_text book (asked_at book.data_date)
 page_at (Ok i) book (suc k) = let from = 10957 + k * 12175 in curve_text book from (from + 12174)
 

@@ -8,6 +8,7 @@ use Rattle.bydate.specs.Months.{by_month}
 use Rattle.spending.specs.declared.asked.Grain.{Grain}
 use Rattle.spending.specs.declared.asked.Grain.TheVariants.{Day, Month, TwelveMonths}
 use Rattle.answers.specs.Reply.{Reply}
+use Rattle.format.specs.declared.Reason.TheVariants.{SumOutOfRange}
 
 -- the points as they are, those of the months, each from its first day, or the sums of twelve months
 unfoldable pub rows_by : Grain → List Dated → Rows
@@ -23,4 +24,4 @@ are_held TwelveMonths xs = are_words (monthly xs)
 
 -- r is answered with them where `out` is lent, and `after` is left in it
 abbrev pub Writes : Grain → List Dated → List ℕ → Reply → List ℕ → Type 0
-Writes grain xs out r after = PutsIf (are_held grain xs) 11 (rows_by grain xs) out r after
+Writes grain xs out r after = PutsIf (are_held grain xs) SumOutOfRange (rows_by grain xs) out r after

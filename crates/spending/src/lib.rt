@@ -137,7 +137,7 @@ pub fn spending_by_month_of(book: &[u8], opened: Opened, out: &mut [u64]) -> Rep
 // All of it by twelve months: for each month from the first to the last that has a point, what falls in it and in the eleven before it.
 pub fn twelve_months_of(book: &[u8], opened: Opened, out: &mut [u64]) -> Reply
     requires { IsOpened book.now opened }
-    ensures { PutsIf (sums_asked.holds (content book.now)) 11 (twelve_months_rows (content book.now)) out.old result out.new }
+    ensures { PutsIf (sums_asked.holds (content book.now)) sums_asked.reason (twelve_months_rows (content book.now)) out.old result out.new }
 {
     let all = Stretch {
         from: 10957,

@@ -7,6 +7,7 @@ ghost use Rattle.money.specs.Words.{bits};
 ghost use Rattle.months.specs.Table.{first_days};
 ghost use Rattle.model.specs.TwelveMonths.{Monthly, twelve_sum, months, twelve_months_of, are_words};
 ghost use Rattle.answers.specs.Rows.{twelve_row, twelve_width};
+ghost use Rattle.format.specs.declared.Reason.TheVariants.{SumOutOfRange};
 ghost use Rattle.answers.specs.Calls.{Puts, PutsIf};
 ghost use Rattle.twelve.specs.Parts.{HasReach, monthly_in};
 ghost use Rattle.twelve.specs.Listed.{AreListed, listed_from};
@@ -82,7 +83,7 @@ fn write_sums(
     requires days_value { days.now ≡ first_days }
     requires has_reach { HasReach table.now reach × AreListed (monthly_in table.now reach) (listed_from first (length sums.old)) }
     requires sums_nonzero { 0 < length sums.old }
-    ensures { PutsIf (are_words (monthly_in table.now reach)) 11 (map twelve_row (twelve_months_of (monthly_in table.now reach))) out.old result out.new }
+    ensures { PutsIf (are_words (monthly_in table.now reach)) SumOutOfRange (map twelve_row (twelve_months_of (monthly_in table.now reach))) out.old result out.new }
 {
     if !twelve_sums(days, reach, table, first, sums) {
         return Err(SUM_OUT_OF_RANGE);
@@ -101,7 +102,7 @@ fn write_in<const N: usize>(
     requires days_value { days.now ≡ first_days }
     requires has_reach { HasReach table.now reach × AreListed (monthly_in table.now reach) listed }
     requires count_bound { (0 < listed.count) × (listed.count ≤ N) × (N ≤ 1200) }
-    ensures { PutsIf (are_words (monthly_in table.now reach)) 11 (map twelve_row (twelve_months_of (monthly_in table.now reach))) out.old result out.new }
+    ensures { PutsIf (are_words (monthly_in table.now reach)) SumOutOfRange (map twelve_row (twelve_months_of (monthly_in table.now reach))) out.old result out.new }
 {
     let mut sums = [0i64; N];
     write_sums(
@@ -125,7 +126,7 @@ fn write_listed(
     requires days_value { days.now ≡ first_days }
     requires has_reach { HasReach table.now reach × AreListed (monthly_in table.now reach) listed }
     requires count_nonzero { 0 < listed.count }
-    ensures { PutsIf (are_words (monthly_in table.now reach)) 11 (map twelve_row (twelve_months_of (monthly_in table.now reach))) out.old result out.new }
+    ensures { PutsIf (are_words (monthly_in table.now reach)) SumOutOfRange (map twelve_row (twelve_months_of (monthly_in table.now reach))) out.old result out.new }
 {
     if listed.count <= 60 {
         return write_in::<60>(days, reach, table, listed, out);
@@ -136,7 +137,7 @@ fn write_listed(
 // The twelve-month sums of a table's points between two dates: the rows where they fit.
 pub fn write_twelve_months(reach: Reach, table: &[u64], out: &mut [u64]) -> Reply
     requires { HasReach table.now reach }
-    ensures { PutsIf (are_words (monthly_in table.now reach)) 11 (map twelve_row (twelve_months_of (monthly_in table.now reach))) out.old result out.new }
+    ensures { PutsIf (are_words (monthly_in table.now reach)) SumOutOfRange (map twelve_row (twelve_months_of (monthly_in table.now reach))) out.old result out.new }
 {
     let days = first_days();
     let listed = listed_months(&days, reach, table);
