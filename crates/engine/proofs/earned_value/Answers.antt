@@ -4,10 +4,10 @@ use Rattle.answers.proofs.Replies.{call_answered, call_refused}
 use Rattle.engine.proofs.earned_value.Goals as goal
 
 pub returns-in_err-opened : goal.returns-in_err-opened
-returns-in_err-opened c = call_refused _ _ _ _ c.open_at-opened.ensures c.in_err-opened.was (search rules)
+returns-in_err-opened c = call_refused _ _ _ _ c.open_at.ensures c.in_err-opened.was (search rules)
 
 pub earned_value_of-requires : goal.earned_value_of-requires
-earned_value_of-requires c = c.open_at-opened.ensures.opens _ c.in_ok-opened.was
+earned_value_of-requires c = c.open_at.ensures.opens _ c.in_ok-opened.was
 
 pub returns : goal.returns
-returns c = call_answered _ _ _ _ c.open_at-opened.ensures c.in_ok-opened.was c.earned_value_of.ensures
+returns c = call_answered _ _ _ _ c.open_at.ensures c.in_ok-opened.was c.earned_value_of.ensures

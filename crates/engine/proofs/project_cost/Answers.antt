@@ -4,10 +4,10 @@ use Rattle.answers.proofs.Replies.{call_answered, call_refused}
 use Rattle.engine.proofs.project_cost.Goals as goal
 
 pub returns-in_err-opened : goal.returns-in_err-opened
-returns-in_err-opened c = call_refused _ _ _ _ c.open-opened.ensures c.in_err-opened.was (search rules)
+returns-in_err-opened c = call_refused _ _ _ _ c.open.ensures c.in_err-opened.was (search rules)
 
 pub project_cost_of-requires : goal.project_cost_of-requires
-project_cost_of-requires c = c.open-opened.ensures.opens _ c.in_ok-opened.was
+project_cost_of-requires c = c.open.ensures.opens _ c.in_ok-opened.was
 
 pub returns : goal.returns
-returns c = call_answered _ _ _ _ c.open-opened.ensures c.in_ok-opened.was c.project_cost_of.ensures
+returns c = call_answered _ _ _ _ c.open.ensures c.in_ok-opened.was c.project_cost_of.ensures
