@@ -28,14 +28,11 @@ pub const COST: usize = 4;
 pub fn lines_of(baseline: Baseline) -> Section
     ensures { (s : List ℕ) (n : ℕ) → unwrap_or (lines_of s n baseline) [] ≡ alike_in (layout.baseline_line n) s result }
 {
-    if baseline.present {
-        return baseline.lines;
-    }
-    Section {
+    baseline.lines.unwrap_or(Section {
         count: 0,
-        first: baseline.lines.first,
-        next: baseline.lines.next,
-    }
+        first: baseline.next,
+        next: baseline.next,
+    })
 }
 
 // A line counts where the last does, and where its activity has none before.

@@ -1,5 +1,5 @@
 -- The layout of the book: where its lists are, and the book that it lays out.
-use Rattle.std.specs.Prelude.{ℕ, ◌≡◌, cond, List, [], ◌∷◌, None, Option, Some}
+use Rattle.std.specs.Prelude.{ℕ, ◌≡◌, List, [], ◌∷◌, Option, option_map}
 use Rattle.format.specs.Field.{U, D}
 use Rattle.format.specs.Codec.{field, O, ◌&◌, marked, up_to}
 use Rattle.format.specs.Enumeration.{technique, forecast}
@@ -29,7 +29,7 @@ pub record IsPlan (s : List ℕ) (p : Pos) (r : Plan) : Type 0 where
   pub expenses : IsAlike 0 1000 (layout.expense r.activities.count) s r.assignments.next r.expenses
 
 unfoldable pub lines_of : List ℕ → ℕ → Baseline → Option (List book.BaselineLine)
-lines_of s activities b = cond b.present (Some (alike_in (layout.baseline_line activities) s b.lines)) None
+lines_of s activities b = option_map (alike_in (layout.baseline_line activities) s) b.lines
 
 abbrev pub IsBaseline : List ℕ → ℕ → Pos → Baseline → Type 0
 IsBaseline s activities p r = (lines_of s activities r, r.next) ≡ (marked (up_to 1000 (layout.baseline_line activities))).read s p

@@ -33,11 +33,10 @@ pub struct Plan {
     pub expenses: Section,
 }
 
-// The baseline, if there is one, and its lines.
+// The lines of the baseline, if there is one.
 #[derive(Clone, Copy)]
 pub struct Baseline {
-    pub present: bool,
-    pub lines: Section,
+    pub lines: Option<Section>,
     pub next: Pos,
 }
 
@@ -112,19 +111,12 @@ fn read_baseline(book: &[u8], at: Pos, activities: u64) -> Baseline
         let line = Element::BaselineLine { activities };
         let lines = read_elements(book, mark.next, line, 0, 1000);
         return Baseline {
-            present: true,
-            lines,
+            lines: Some(lines),
             next: lines.next,
         };
     }
-    let none = Section {
-        count: 0,
-        first: mark.next,
-        next: mark.next,
-    };
     Baseline {
-        present: false,
-        lines: none,
+        lines: None,
         next: mark.next,
     }
 }
