@@ -16,7 +16,6 @@ ghost use Rattle.activities.specs.Schedule.{percent_given, percent_bits, percent
 
 use crate::ways::way_number;
 use book::layout::Plan;
-use fields::enumerations::status_of;
 use format::Status;
 use model::Way;
 use money::words::{from_bits, to_bits};
@@ -158,7 +157,7 @@ pub fn status_at(schedule: &[u64], i: usize) -> Status
     requires { i * 13 + 12 < length schedule.now }
     ensures { result ≡ status_of (entry_at schedule.now i 8) }
 {
-    status_of(entry(schedule, i, STATUS))
+    Status::from(entry(schedule, i, STATUS))
 }
 
 pub fn percent_at(schedule: &[u64], i: usize) -> Option<i64>

@@ -5,7 +5,6 @@ ghost use Rattle.format.specs.Verdict as verdict;
 ghost use Rattle.book.specs.Layout.{IsHeader, IsPlan, IsBaseline, IsLedger, IsLayout, book_of};
 ghost use Rattle.format.specs.Position.{Pos};
 
-use fields::enumerations::forecast_of;
 use fields::kinds::{field, optional_date};
 use format::{EtcTechnique, EvTechnique, Pos, Reason, Refusal};
 use records::techniques::read_technique;
@@ -72,7 +71,7 @@ fn read_header(book: &[u8], at: Pos) -> Header
         edition: edition.value,
         date: date.value,
         technique: technique.value,
-        forecast: forecast_of(forecast.value),
+        forecast: EtcTechnique::from(forecast.value),
         next: forecast.next,
     }
 }

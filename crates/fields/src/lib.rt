@@ -3,7 +3,6 @@
 
 use format::Pos;
 
-pub mod enumerations;
 pub mod kinds;
 pub mod numbers;
 

@@ -4,6 +4,8 @@
 ghost use Rattle.std.specs.Prelude.{◌≡◌};
 ghost use Rattle.format.specs.Refusals.{reason_number};
 
+mod numbers;
+
 // Why a book or a call is refused, in the order of the table of refusals.
 #[derive(Clone, Copy, Debug, PartialEq, Eq)]
 pub enum Reason {

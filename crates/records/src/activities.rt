@@ -3,7 +3,6 @@ ghost use Rattle.std.specs.Prelude.{◌≡◌};
 ghost use Rattle.format.specs.Format as layout;
 ghost use Rattle.records.specs.Decoded.{activity_of, assignment_of, expense_of, baseline_line_of};
 
-use fields::enumerations::{accrual_of, status_of};
 use fields::kinds::{
     amount, date, field, index, minutes, optional_amount, optional_date, optional_index,
 };
@@ -73,7 +72,7 @@ pub fn read_activity(book: &[u8], at: Pos, calendars: u64, activities: u64) -> A
     Activity {
         parent: parent.value,
         calendar: calendar.value,
-        status: status_of(status.value),
+        status: Status::from(status.value),
         start: start.value,
         finish: finish.value,
         started: started.value,
@@ -117,7 +116,7 @@ pub fn read_expense(book: &[u8], at: Pos, activities: u64) -> Expense
     let remaining = amount(book, actual.next);
     Expense {
         activity: activity.value,
-        accrual: accrual_of(accrual.value),
+        accrual: Accrual::from(accrual.value),
         planned: planned.value,
         actual: actual.value,
         remaining: remaining.value,

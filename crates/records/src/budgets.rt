@@ -7,7 +7,6 @@ ghost use Rattle.format.specs.Format as layout;
 ghost use Rattle.records.specs.Decoded.{budget_change_of};
 
 use fields::Read;
-use fields::enumerations::change_status_of;
 use fields::kinds::{amount, field, optional_index, place};
 use format::{ChangeStatus, Pos, Reason, Refusal};
 
@@ -73,7 +72,7 @@ pub fn read_budget_change(book: &[u8], at: Pos, activities: u64) -> BudgetChange
     BudgetChange {
         activity: activity.value,
         amount: change.value,
-        status: change_status_of(status.value),
+        status: ChangeStatus::from(status.value),
         next: status.next,
     }
 }

@@ -7,7 +7,6 @@ ghost use Rattle.format.specs.Enumeration.{region};
 ghost use Rattle.format.specs.Format as layout;
 ghost use Rattle.records.specs.Decoded.{exception_of};
 
-use fields::enumerations::{region_of, working_of};
 use fields::kinds::{field, rising};
 use format::{Pos, Reason, Region};
 
@@ -33,7 +32,7 @@ pub fn read_calendar_head(book: &[u8], at: Pos) -> CalendarHead
     let region = field(book, week.next, 0, 2, Reason::OutOfRange);
     CalendarHead {
         week: week.value,
-        region: region_of(region.value),
+        region: Region::from(region.value),
         next: region.next,
     }
 }
@@ -46,7 +45,7 @@ pub fn read_exception(book: &[u8], at: Pos, before: u64) -> Exception
     let working = field(book, day.next, 0, 2, Reason::OutOfRange);
     Exception {
         day: day.value,
-        working: working_of(working.value),
+        working: working.value != 0,
         next: working.next,
     }
 }

@@ -5,7 +5,6 @@ ghost use Rattle.format.specs.Format as layout;
 ghost use Rattle.records.specs.Decoded.{price_of};
 
 use fields::Read;
-use fields::enumerations::resource_kind_of;
 use fields::kinds::{amount, field, optional_date};
 use format::{Pos, Reason, ResourceKind};
 
@@ -23,7 +22,7 @@ pub fn read_resource_head(book: &[u8], at: Pos) -> Read<ResourceKind>
 {
     let kind = field(book, at, 0, 3, Reason::OutOfRange);
     Read {
-        value: resource_kind_of(kind.value),
+        value: ResourceKind::from(kind.value),
         next: kind.next,
     }
 }

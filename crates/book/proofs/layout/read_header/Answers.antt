@@ -9,4 +9,4 @@ unfolding ◌&◌ forecast
 returns c =
     both_read _ _ _ _ c.field-edition.ensures
     (both_read _ _ _ _ c.optional_date-date.ensures
-    (both_read _ _ _ _ c.read_technique-technique.ensures (enum_read _ _ _ _ _ _ _ c.field-forecast.ensures c.forecast_of.ensures)))
+    (both_read _ _ _ _ c.read_technique-technique.ensures (enum_read _ _ _ _ _ _ _ c.field-forecast.ensures c.from.ensures)))

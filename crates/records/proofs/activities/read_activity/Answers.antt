@@ -12,7 +12,7 @@ returns c =
     iso_read _ _ _ _ _ _ _
     (both_read _ _ _ _ c.optional_index-parent.ensures
     (both_read _ _ _ _ c.optional_index-calendar.ensures
-    (both_read _ _ _ _ (enum_read _ _ _ _ _ _ _ c.field-status.ensures c.status_of.ensures)
+    (both_read _ _ _ _ (enum_read _ _ _ _ _ _ _ c.field-status.ensures c.from.ensures)
     (both_read _ _ _ _ c.date-start.ensures
     (both_read _ _ _ _ c.date-finish.ensures
     (both_read _ _ _ _ c.optional_date-started.ensures

@@ -12,4 +12,4 @@ returns c =
     iso_read _ _ _ _ _ _ _
     (both_read _ _ _ _ c.optional_index-activity.ensures
     (both_read _ _ _ _ (amount_read c.amount-change.ensures c.struct_told-1.given.0.1)
-    (enum_read _ _ _ _ _ _ _ c.field-status.ensures c.change_status_of.ensures)))
+    (enum_read _ _ _ _ _ _ _ c.field-status.ensures c.from.ensures)))

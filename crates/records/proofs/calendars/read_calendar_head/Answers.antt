@@ -8,4 +8,4 @@ pub returns : goal.returns
 unfolding region ◌&◌
 returns c =
     both_read _ _ _ _ c.field-week.ensures
-    (enum_read _ _ _ _ _ _ _ c.field-region.ensures c.region_of.ensures)
+    (enum_read _ _ _ _ _ _ _ c.field-region.ensures c.from.ensures)

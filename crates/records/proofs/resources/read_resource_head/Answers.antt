@@ -5,4 +5,4 @@ use Rattle.records.proofs.resources.read_resource_head.Goals as goal
 
 pub returns : goal.returns
 unfolding resource_kind
-returns c = enum_read _ _ _ _ _ _ _ c.field-kind.ensures c.resource_kind_of.ensures
+returns c = enum_read _ _ _ _ _ _ _ c.field-kind.ensures c.from.ensures
