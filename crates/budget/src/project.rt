@@ -13,7 +13,6 @@ use book::layout::{Ledger, Plan};
 use format::ChangeStatus;
 use ledger::accounts::account_number;
 use ledger::budgets::next_budget;
-use ledger::changes::status_number;
 use money::sums::saturating_add;
 use records::budgets::{BudgetChange, read_budget_change};
 use sections::Section;
@@ -30,7 +29,7 @@ fn is_project(account: Option<u64>) -> bool
 fn is_approved(status: ChangeStatus) -> bool
     ensures { result ≡ same_status status Approved }
 {
-    status_number(status) == 1
+    matches!(status, ChangeStatus::Approved)
 }
 
 // What was first approved for it. Those with a budget before its own are marked.

@@ -1,35 +1,22 @@
 // The log, taken into the table of accounts: the changes by status, and who has a line in it.
-ghost use Rattle.std.specs.Prelude.{◌≡◌, ◌<◌};
+ghost use Rattle.std.specs.Prelude.{◌≡◌};
 ghost use mathlib.Core.List.{foldl};
-ghost use Rattle.format.specs.Enumeration.{change_status_number};
 ghost use Rattle.format.specs.Verdict.{content};
 ghost use Rattle.records.specs.Decoded.{budget_change_of};
 ghost use Rattle.ledger.specs.Accounts.{change_place, change_taken, marked_by};
 ghost use Rattle.ledger.specs.Arguments.{IsLog};
 
 use crate::accounts::{PENDING, account_number, add_figure};
-use format::ChangeStatus;
 use records::budgets::{BudgetChange, read_budget_change};
 use sections::Section;
-
-pub fn status_number(status: ChangeStatus) -> usize
-    ensures { (result ≡ change_status_number status) × (result < 3) }
-{
-    match status {
-        ChangeStatus::Pending => 0,
-        ChangeStatus::Approved => 1,
-        ChangeStatus::NotApproved => 2,
-    }
-}
 
 // One change, in its account's row.
 fn take_change(change: BudgetChange, accounts: &mut [i64; 3006])
     ensures { accounts.new ≡ change_taken accounts.old (budget_change_of change) }
 {
-    let activity = change.activity;
-    let status = change.status;
-    let k = account_number(activity);
-    add_figure(k, PENDING + status_number(status), change.amount, accounts);
+    let k = account_number(change.activity);
+    let figure = PENDING + change.status as usize;
+    add_figure(k, figure, change.amount, accounts);
 }
 
 // All of them, in a book with so many activities.

@@ -1,11 +1,17 @@
--- `is_approved` meets its contract: by number.
-use mathlib.Core.Path.{ap}
-use lib.Dec.{eqb}
-use Prim.Native.Nat.{ℕ}
+-- `is_approved` meets its contract: another status has another number.
+use mathlib.Core.Path.{◌≡◌, refl}
+use mathlib.Core.Bool.{false}
+use Rattle.format.specs.declared.ChangeStatus.{ChangeStatus}
+use Rattle.format.specs.declared.ChangeStatus.TheVariants.{Pending, Approved, NotApproved}
 use Rattle.format.specs.Enumeration.{change_status_number}
-use borrow.Author.Rules.{rules}
+use Rattle.model.specs.Budgets.{same_status}
 use Rattle.budget.proofs.project.is_approved.Goals as goal
 
-pub returns : goal.returns
+other : (s : ChangeStatus) → (s ≡ Approved → ⊥) → false ≡ same_status s Approved
 unfolding change_status_number
-returns c = ap (λ (k : ℕ). eqb k 1) c.status_number.ensures.0
+other Pending h = refl
+other Approved h = absurd (h refl)
+other NotApproved h = refl
+
+pub returns-in_default : goal.returns-in_default
+returns-in_default c = other c.args.status c.in_default.not-Approved
