@@ -1,7 +1,7 @@
 // What planned value is made of, read from an opened book: the leaves' budgets, and the spans over which they are phased.
 #![tactic(auto)]
 
-ghost use Rattle.std.specs.Prelude.{◌*◌, ◌≡◌, length};
+ghost use Rattle.std.specs.Prelude.{◌*◌, ◌≤◌, ◌≡◌, length};
 ghost use Rattle.format.specs.Verdict.{content};
 ghost use Rattle.answers.specs.Opened.{IsOpened};
 ghost use Rattle.phased.specs.Columns.{AreColumns, HasRoom, ArePhased};
@@ -48,27 +48,22 @@ fn phase_by(
     parent_marks(schedule)
 }
 
-// The same, with room for it: small tables for few activities.
-pub fn phase(book: &[u8], opened: Opened, listed: &mut [u64], budgets: &mut [i64]) -> [u64; 500]
+// The same, with tables of its own.
+fn phase_sized<const SCHEDULE: usize, const COSTS: usize>(
+    book: &[u8],
+    opened: Opened,
+    listed: &mut [u64],
+    budgets: &mut [i64],
+) -> [u64; 500]
     requires opened { IsOpened book.now opened }
     requires listed_len { (length listed.old ≡ opened.plan.activities.count * 3) × (length budgets.old ≡ opened.plan.activities.count) }
+    requires room { (length budgets.old * 13 ≤ SCHEDULE) × (length budgets.old * 3 ≤ COSTS) }
+    requires most { (SCHEDULE ≤ 6500) × (COSTS ≤ 1500) }
     ensures { ArePhased (content book.now) result listed.new budgets.new }
 {
+    let mut schedule = [0u64; SCHEDULE];
+    let mut costs = [0i64; COSTS];
     let n = budgets.len();
-    if n <= FEW {
-        let mut schedule = [0u64; 416];
-        let mut costs = [0i64; 96];
-        return phase_by(
-            book,
-            opened,
-            &mut schedule[..n * SCHEDULE_WIDTH],
-            &mut costs[..n * COST_WIDTH],
-            listed,
-            budgets,
-        );
-    }
-    let mut schedule = [0u64; 6500];
-    let mut costs = [0i64; 1500];
     phase_by(
         book,
         opened,
@@ -77,4 +72,16 @@ pub fn phase(book: &[u8], opened: Opened, listed: &mut [u64], budgets: &mut [i64
         listed,
         budgets,
     )
+}
+
+// The same: small tables for few activities.
+pub fn phase(book: &[u8], opened: Opened, listed: &mut [u64], budgets: &mut [i64]) -> [u64; 500]
+    requires opened { IsOpened book.now opened }
+    requires listed_len { (length listed.old ≡ opened.plan.activities.count * 3) × (length budgets.old ≡ opened.plan.activities.count) }
+    ensures { ArePhased (content book.now) result listed.new budgets.new }
+{
+    if budgets.len() <= FEW {
+        return phase_sized::<416, 96>(book, opened, listed, budgets);
+    }
+    phase_sized::<6500, 1500>(book, opened, listed, budgets)
 }

@@ -1,5 +1,4 @@
 -- `fill_columns` meets its contract: one table after the other.
-use borrow.Author.Rules.{rules}
 use Rattle.phased.proofs.fill_columns.Goals as goal
 
 pub list_spans-requires : goal.list_spans-requires

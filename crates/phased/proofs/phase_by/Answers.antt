@@ -1,7 +1,6 @@
 -- `phase_by` meets its contract: one table after the other, then the marks.
 use Rattle.format.specs.Verdict.{content}
 use Rattle.activities.proofs.Scheduling.{schedule_most}
-use borrow.Author.Rules.{rules}
 use Rattle.phased.proofs.phase_by.Goals as goal
 
 pub parent_marks-requires : goal.parent_marks-requires
