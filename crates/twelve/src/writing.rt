@@ -115,26 +115,7 @@ fn write_in<const N: usize>(
     )
 }
 
-// The same: a small array is enough for five years.
-fn write_listed(
-    days: &[u16; 1200],
-    reach: Reach,
-    table: &[u64],
-    listed: Listed,
-    out: &mut [u64],
-) -> Reply
-    requires days_value { days.now ≡ first_days }
-    requires has_reach { HasReach table.now reach × AreListed (monthly_in table.now reach) listed }
-    requires count_nonzero { 0 < listed.count }
-    ensures { PutsIf (are_words (monthly_in table.now reach)) SumOutOfRange (map twelve_row (twelve_months_of (monthly_in table.now reach))) out.old result out.new }
-{
-    if listed.count <= 60 {
-        return write_in::<60>(days, reach, table, listed, out);
-    }
-    write_in::<1200>(days, reach, table, listed, out)
-}
-
-// The twelve-month sums of a table's points between two dates: the rows where they fit.
+// The twelve-month sums of a table's points between two dates: the rows where they fit. A small array is enough for five years.
 pub fn write_twelve_months(reach: Reach, table: &[u64], out: &mut [u64]) -> Reply
     requires { HasReach table.now reach }
     ensures { PutsIf (are_words (monthly_in table.now reach)) SumOutOfRange (map twelve_row (twelve_months_of (monthly_in table.now reach))) out.old result out.new }
@@ -144,5 +125,8 @@ pub fn write_twelve_months(reach: Reach, table: &[u64], out: &mut [u64]) -> Repl
     if listed.count == 0 {
         return Ok(0);
     }
-    write_listed(&days, reach, table, listed, out)
+    if listed.count <= 60 {
+        return write_in::<60>(&days, reach, table, listed, out);
+    }
+    write_in::<1200>(&days, reach, table, listed, out)
 }
