@@ -1,10 +1,8 @@
 -- `first_point` meets its contract: no date that it has passed has a point.
-use Prim.Native.Nat.{ℕ, ◌+◌, ◌-◌, ◌≤◌, ◌<◌}
-use mathlib.Core.Path.{◌≡◌, sym, ◌∙◌}
+use Prim.Native.Nat.{ℕ, ◌≤◌, ◌<◌}
+use mathlib.Core.Path.{◌≡◌}
 use mathlib.Core.Bool.{false}
-use native.Mathlib.Omega.{arith}
 use Rattle.bydate.specs.Pointed.{is_marked}
-use Rattle.twelve.proofs.Searching.{passed_up}
 use Rattle.twelve.proofs.listed.first_point.Given as goal
 
 abbrev pub invariant-loop-date : goal.invariant-loop-date

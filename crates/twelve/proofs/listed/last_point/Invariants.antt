@@ -1,10 +1,8 @@
 -- `last_point` meets its contract: no date that it has passed has a point, and the first one has.
-use Prim.Native.Nat.{ℕ, ◌+◌, ◌-◌, ◌≤◌, ◌<◌}
-use mathlib.Core.Path.{◌≡◌, sym, ap, ◌∙◌}
+use Prim.Native.Nat.{ℕ, ◌+◌, ◌≤◌, ◌<◌}
+use mathlib.Core.Path.{◌≡◌}
 use mathlib.Core.Bool.{false}
-use native.Mathlib.Omega.{arith}
 use Rattle.bydate.specs.Pointed.{is_marked}
-use Rattle.twelve.proofs.Searching.{passed_down}
 use Rattle.twelve.proofs.listed.last_point.Given as goal
 
 abbrev pub invariant-loop-date : goal.invariant-loop-date

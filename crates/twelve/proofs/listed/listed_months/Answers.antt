@@ -1,5 +1,4 @@
 -- `listed_months` meets its contract: the months of the first and the last point.
-use Prim.Native.Nat.{◌≤◌}
 use native.Mathlib.Omega.{arith}
 use Rattle.twelve.specs.Listed.{IsPoint}
 use Rattle.twelve.proofs.Spanned.{months_order, are_listed, none_listed}

@@ -6,7 +6,7 @@ use lib.IntN.{nat_abs}
 use lib.ListN.{length, get_or}
 use Rattle.money.specs.Exact.{value_of}
 use Rattle.money.proofs.ExactWords.{of_bits_small}
-use Rattle.twelve.proofs.Adding.{Adding, adding_none, adding_past, adding_more, adding_small, adding_within, adding_end}
+use Rattle.twelve.proofs.Adding.{adding_none, adding_past, adding_more, adding_small, adding_within, adding_end}
 use borrow.Author.Rules.{rules}
 use Rattle.twelve.proofs.sums.sum_between.Goals as goal
 use Rattle.twelve.proofs.sums.sum_between.Goals.{In-loop-date, then-is_marked, else-is_marked}

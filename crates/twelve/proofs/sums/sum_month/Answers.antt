@@ -4,7 +4,6 @@ use native.Mathlib.Omega.{arith}
 use mathlib.Core.Path.{◌∙◌}
 use Rattle.months.specs.Months.{january2000}
 use Rattle.twelve.proofs.Points.{month_sum_lem}
-use borrow.Author.Rules.{rules}
 use Rattle.twelve.proofs.sums.sum_month.Goals as goal
 
 pub sum_between-requires : goal.sum_between-requires

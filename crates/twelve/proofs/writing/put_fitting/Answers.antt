@@ -2,7 +2,6 @@
 use native.Mathlib.Omega.{arith}
 use mathlib.Core.Path.{sym, ◌∙◌}
 use lib.Seq.{length-take-le}
-use borrow.Author.Rules.{rules}
 use Rattle.answers.proofs.Sized.{no_room, in_front}
 use Rattle.twelve.proofs.Largest.{rows_are, rows_sized}
 use Rattle.twelve.proofs.writing.put_fitting.Goals as goal

@@ -5,7 +5,6 @@ use lib.ListN.{length-set}
 use mir.Syntax.{w64}
 use Rattle.integer.specs.Linear.{back}
 use Rattle.money.specs.Words.{bits}
-use borrow.Author.Rules.{rules}
 use Rattle.twelve.proofs.Largest.{row_set}
 use Rattle.twelve.proofs.writing.put_month.Goals as goal
 

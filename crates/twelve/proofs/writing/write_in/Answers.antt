@@ -1,10 +1,8 @@
 -- `write_in` meets its contract: the array is lent as far as there are months.
 use native.Mathlib.Omega.{arith}
-use Prim.Native.Nat.{◌≤◌}
 use lib.IntN.{pos}
 use Rattle.bydate.proofs.Arrays.{front_long}
 use Rattle.twelve.proofs.Windows.{listed_long_lem}
-use borrow.Author.Rules.{rules}
 use Rattle.twelve.proofs.writing.write_in.Goals as goal
 
 pub slice_bounds-write_sums-end : goal.slice_bounds-write_sums-end

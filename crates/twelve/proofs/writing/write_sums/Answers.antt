@@ -1,8 +1,6 @@
 -- `write_sums` meets its contract: 11 where a sum is not of 64 bits, else the rows.
 use native.Mathlib.Omega.{arith}
 use mathlib.Core.Path.{sym, ◌∙◌}
-use borrow.Author.Rules.{rules}
-use borrow.Author.Tests.{not-true, not-false}
 use Rattle.answers.proofs.Replies.{puts_if, puts_failed}
 use Rattle.twelve.proofs.Windows.{listed_long_lem}
 use Rattle.twelve.proofs.writing.write_sums.Goals as goal

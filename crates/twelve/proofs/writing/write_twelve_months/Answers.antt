@@ -3,7 +3,6 @@ use native.Mathlib.Omega.{arith}
 use Rattle.answers.proofs.Sized.{nothing_there}
 use Rattle.answers.proofs.Replies.{puts_if}
 use Rattle.twelve.proofs.Largest.{rows_sized, none_words}
-use borrow.Author.Rules.{rules}
 use Rattle.twelve.proofs.writing.write_twelve_months.Goals as goal
 
 pub returns-then-listed-eq0 : goal.returns-then-listed-eq0
