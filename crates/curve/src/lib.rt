@@ -25,7 +25,6 @@ use calendar::all::fill_all;
 use phased::phase;
 use planned::{Reach, reach_of};
 use spans::Stretch;
-use spans::stretches::{earlier, later};
 
 // What is asked of a book: the dates between two of the stretch that its listed spans take.
 #[derive(Clone, Copy)]
@@ -41,8 +40,8 @@ fn ask(reach: Reach, between: Stretch) -> Asked
 {
     Asked {
         reach,
-        from: later(between.from, reach.known.from),
-        to: earlier(between.to, reach.known.to),
+        from: between.from.max(reach.known.from),
+        to: between.to.min(reach.known.to),
     }
 }
 

@@ -1,22 +1,8 @@
 // The stretch of dates that spans take.
-ghost use Rattle.std.specs.Prelude.{◌≡◌, ◌+◌, ◌*◌, ◌<◌, min, max, length, get_or};
+ghost use Rattle.std.specs.Prelude.{◌≡◌, ◌+◌, ◌*◌, ◌<◌, length, get_or};
 ghost use Rattle.spans.specs.Stretches.{DatedSpans, CoversSpans, widened, closed};
 
 use crate::Stretch;
-
-// The earlier of two dates.
-pub fn earlier(a: u64, b: u64) -> u64
-    ensures { result ≡ min a b }
-{
-    a.min(b)
-}
-
-// The later of two dates.
-pub fn later(a: u64, b: u64) -> u64
-    ensures { result ≡ max a b }
-{
-    a.max(b)
-}
 
 // The stretch with one more span, which has no dates where its first is 0.
 pub fn widen(known: Stretch, first: u64, last: u64) -> Stretch

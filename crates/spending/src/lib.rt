@@ -24,7 +24,7 @@ use activities::schedule::{DATES, FEW, SCHEDULE_WIDTH, fill_schedule};
 use answers::Reply;
 use answers::open::Opened;
 use spans::Stretch;
-use spans::stretches::{earlier, later, stretch_of};
+use spans::stretches::stretch_of;
 
 // The rows between two dates, from the schedule.
 fn rows_by(
@@ -51,8 +51,8 @@ fn rows_by(
         grain,
         known,
         frame,
-        from: later(between.from, known.from),
-        to: earlier(between.to, known.to),
+        from: between.from.max(known.from),
+        to: between.to.min(known.to),
     };
     if asked.to < asked.from {
         return Ok(0);

@@ -11,7 +11,6 @@ use crate::days::{EARLY_FINISH, EARLY_START, count_calendars};
 use baseline::lines::{FINISH, LINE_WIDTH, START};
 use sections::Section;
 use spans::Stretch;
-use spans::stretches::{earlier, later};
 
 // The stretch with one date more; 0 is none.
 fn widen(known: Stretch, date: u64) -> Stretch
@@ -21,8 +20,8 @@ fn widen(known: Stretch, date: u64) -> Stretch
         return known;
     }
     Stretch {
-        from: earlier(known.from, date),
-        to: later(known.to, date),
+        from: known.from.min(date),
+        to: known.to.max(date),
     }
 }
 

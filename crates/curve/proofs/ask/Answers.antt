@@ -7,4 +7,4 @@ use Rattle.curve.proofs.ask.Goals as goal
 pub returns : goal.returns
 returns c =
     let s = c.args in
-    ap₂ (λ (from to : ℕ). let asked : Asked = record { reach = s.reach; from = from; to = to } in asked) c.later.ensures c.earlier.ensures
+    ap₂ (λ (from to : ℕ). let asked : Asked = record { reach = s.reach; from = from; to = to } in asked) c.max.ensures c.min.ensures

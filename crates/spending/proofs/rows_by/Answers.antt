@@ -22,28 +22,28 @@ stretch_of-known-requires c =
 pub returns-then-asked : goal.returns-then-asked
 returns-then-asked c =
     writes_none c.args.grain _
-    (spending_none c.requires.opened.plan c.requires.schedule_value (planned_covers c.args.schedule.now c.stretch_of-known.ensures) c.args.between.from c.args.between.to c.later.ensures c.earlier.ensures c.if-asked.true)
+    (spending_none c.requires.opened.plan c.requires.schedule_value (planned_covers c.args.schedule.now c.stretch_of-known.ensures) c.args.between.from c.args.between.to c.max.ensures c.min.ensures c.if-asked.true)
 
 pub overflow_add-charges : goal.overflow_add-charges
 overflow_add-charges c = let plan = c.requires.opened.plan in omega (arith, assignments_most plan, expenses_most plan)
 
 -- what is asked, where the first date is not after the last
-asked_is : (c : Else-asked) → IsAsked c.args.book.now (record { opened = c.args.opened; grain = c.args.grain; known = c.stretch_of-known.result; frame = c.frame_of-frame.result; from = c.later.result; to = c.earlier.result }) c.args.schedule.now
+asked_is : (c : Else-asked) → IsAsked c.args.book.now (record { opened = c.args.opened; grain = c.args.grain; known = c.stretch_of-known.result; frame = c.frame_of-frame.result; from = c.max.result; to = c.min.result }) c.args.schedule.now
 asked_is c =
     record {
       opened = c.requires.opened;
       scheduled = c.requires.schedule_value;
       covers = planned_covers c.args.schedule.now c.stretch_of-known.ensures;
       framed = c.frame_of-frame.ensures;
-      begins = omega (arith, c.later.ensures);
+      begins = omega (arith, c.max.ensures);
       rises = c.if-asked.false;
-      ends = omega (arith, c.earlier.ensures);
+      ends = omega (arith, c.min.ensures);
     }
 
 -- its rows are those between the two dates
-narrow : (c : Else-asked) → spending_between (content c.args.book.now) c.later.result c.earlier.result ≡ spending_between (content c.args.book.now) c.args.between.from c.args.between.to
+narrow : (c : Else-asked) → spending_between (content c.args.book.now) c.max.result c.min.result ≡ spending_between (content c.args.book.now) c.args.between.from c.args.between.to
 narrow c =
-    spending_narrow c.requires.opened.plan c.requires.schedule_value (planned_covers c.args.schedule.now c.stretch_of-known.ensures) c.args.between.from c.args.between.to c.later.ensures c.earlier.ensures
+    spending_narrow c.requires.opened.plan c.requires.schedule_value (planned_covers c.args.schedule.now c.stretch_of-known.ensures) c.args.between.from c.args.between.to c.max.ensures c.min.ensures
 
 pub few_rows-requires : goal.few_rows-requires
 few_rows-requires c = record { asked = asked_is (goal.at.few_rows-requires c).Else-asked; are_few = c.are_few.ensures c.if-are_few.true }

@@ -11,4 +11,4 @@ returns-then-date-eq0 c = widened_none c.args.known c.args.date c.if-date-eq0.tr
 pub returns : goal.returns
 returns c =
     let a = c.args in
-    ap₂ {C = Stretch} (λ (x y : ℕ). record { from = x; to = y }) c.earlier.ensures c.later.ensures ∙ widened_some a.known a.date c.if-date-eq0.false
+    ap₂ {C = Stretch} (λ (x y : ℕ). record { from = x; to = y }) c.min.ensures c.max.ensures ∙ widened_some a.known a.date c.if-date-eq0.false
