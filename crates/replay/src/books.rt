@@ -16,8 +16,5 @@ pub fn replay(line: &[u8], from: usize) -> Outcome {
     let read = hex::read_bytes(line, from, &mut bytes);
     let n = read.count;
     let answer = verdict(&bytes[..n]);
-    Outcome {
-        answer: answer,
-        same: vectors::agrees(line, read.next, answer),
-    }
+    vectors::compared(answer, vectors::agrees(line, read.next, answer))
 }

@@ -7,8 +7,7 @@ ghost use Rattle.std.specs.Prelude.{◌<◌, ◌≤◌, length};
 mod books;
 mod calls;
 
-use vectors::answer::Answer;
-use vectors::{Outcome, names, text};
+use vectors::{Difference, Outcome, names, text};
 
 const IN: i32 = 0;
 
@@ -46,15 +45,13 @@ fn tell(values: [u64; 4], n: usize) {
     }
 }
 
-// A line that differs, and what its function gave.
-fn report(line: &[u8], a: Answer) {
+// A line that differs, and how.
+fn report(line: &[u8], difference: Difference) {
     print(b"differs: ");
     print(line);
-    if a.known {
-        let values = a.values;
-        tell(values, a.count);
-    } else {
-        print(b" names no function");
+    match difference {
+        Difference::Gave(a) => tell(a.values, a.count),
+        Difference::NoFunction => print(b" names no function"),
     }
     print(b"\n");
 }
@@ -73,16 +70,19 @@ fn outcome(line: &[u8], place: u64, end: usize) -> Outcome
 
 // The count with one line more.
 fn counted(line: &[u8], o: Outcome, tally: Tally) -> Tally {
-    if o.same {
-        return Tally {
-            lines: tally.lines.saturating_add(1),
+    let lines = tally.lines.saturating_add(1);
+    match o {
+        Ok(()) => Tally {
+            lines,
             differ: tally.differ,
-        };
-    }
-    report(line, o.answer);
-    Tally {
-        lines: tally.lines.saturating_add(1),
-        differ: tally.differ.saturating_add(1),
+        },
+        Err(difference) => {
+            report(line, difference);
+            Tally {
+                lines,
+                differ: tally.differ.saturating_add(1),
+            }
+        }
     }
 }
 
@@ -90,7 +90,7 @@ fn counted(line: &[u8], o: Outcome, tally: Tally) -> Tally {
 fn replay(line: &[u8], tally: Tally) -> Tally {
     let end = text::find(line, 0, text::BLANK);
     if line.len() <= end {
-        return counted(line, vectors::unknown(), tally);
+        return counted(line, Err(Difference::NoFunction), tally);
     }
     let place = names::place(&line[..end], b"verdict call ");
     counted(line, outcome(line, place, end), tally)
@@ -117,39 +117,29 @@ fn replay_block(buf: &[u8], full: usize, tally: Tally) -> Block
     }
 }
 
-// What a turn leaves: how many bytes of a line begun stand at the buffer's start, the count so far, and whether to go on.
+// What a turn leaves: how many bytes of a line begun stand at the buffer's start, and the count so far.
 #[derive(Clone, Copy)]
 struct Turn {
     pub have: usize,
     pub tally: Tally,
-    pub more: bool,
 }
 
-// Fills the buffer behind what it has, and replays its whole lines. The input ends where nothing more is read.
-fn read_block(buf: &mut [u8], have: usize, tally: Tally) -> Turn {
+// Fills the buffer behind what it has, and replays its whole lines; nothing where the input ends, which is where nothing more is read.
+fn read_block(buf: &mut [u8], have: usize, tally: Tally) -> Option<Turn> {
     if buf.len() < have {
-        return Turn {
-            have: have,
-            tally: tally,
-            more: false,
-        };
+        return None;
     }
     let got = io::read_full(IN, &mut buf[have..]);
     if got == 0 {
-        return Turn {
-            have: have,
-            tally: tally,
-            more: false,
-        };
+        return None;
     }
     let full = have + got;
     let block = replay_block(buf, full, tally);
     buf.copy_within(block.end..full, 0);
-    Turn {
+    Some(Turn {
         have: full - block.end,
         tally: block.tally,
-        more: true,
-    }
+    })
 }
 
 fn main() {
@@ -160,11 +150,12 @@ fn main() {
         differ: 0,
     };
     for _block in 0..BLOCKS {
-        let t = read_block(&mut space, have, tally);
-        have = t.have;
-        tally = t.tally;
-        if !t.more {
-            break;
+        match read_block(&mut space, have, tally) {
+            Some(turn) => {
+                have = turn.have;
+                tally = turn.tally;
+            }
+            None => break,
         }
     }
     if 0 < have {

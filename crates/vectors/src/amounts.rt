@@ -1,5 +1,5 @@
 // The crate `money`.
-use crate::answer::{Answer, one, three, two, unknown};
+use crate::answer::{Answer, one, three, two};
 use crate::names::place;
 use money::costs::Cost;
 use money::words::{from_bits, to_bits};
@@ -12,23 +12,20 @@ fn cost(budget: u64, actual: u64, remaining: u64) -> Cost {
     }
 }
 
-// A share, for a day of a list of days.
-fn share(amount: u64, n: u64, k: u64) -> Answer {
+// A share, for a day of a list of days; nothing for a list of none.
+fn share(amount: u64, n: u64, k: u64) -> Option<Answer> {
     if n == 0 {
-        return unknown();
+        return None;
     }
-    one(to_bits(money::shares::share(from_bits(amount), n, k)))
+    Some(one(to_bits(money::shares::share(from_bits(amount), n, k))))
 }
 
-// The first k shares, of a list of n days.
-fn cumulative(amount: u64, n: u64, k: u64) -> Answer {
-    if n == 0 {
-        return unknown();
+// The first k shares, of a list of n days; nothing for a list of none or of fewer.
+fn cumulative(amount: u64, n: u64, k: u64) -> Option<Answer> {
+    if n == 0 || n < k {
+        return None;
     }
-    if n < k {
-        return unknown();
-    }
-    one(to_bits(money::shares::cumulative(from_bits(amount), n, k)))
+    Some(one(to_bits(money::shares::cumulative(from_bits(amount), n, k))))
 }
 
 // The functions of two amounts. In two's complement an argument and a result of the last two are the same number.
@@ -66,27 +63,28 @@ fn of_cost(place: u64, c: Cost, d: Cost) -> Answer {
 }
 
 // The functions of an amount that is spread over days.
-fn spread(place: u64, amount: u64, n: u64, k: u64) -> Answer {
+fn spread(place: u64, amount: u64, n: u64, k: u64) -> Option<Answer> {
     match place {
         9 => share(amount, n, k),
         10 => cumulative(amount, n, k),
-        _ => unknown(),
+        _ => None,
     }
 }
 
-pub fn answer(name: &[u8], x: [u64; 16]) -> Answer {
+// What the function of that name gives; nothing where there is none.
+pub fn answer(name: &[u8], x: [u64; 16]) -> Option<Answer> {
     let k = place(
         name,
         b"saturating_add saturating_sub priced to_bits from_bits spent at_completion variance cost_add share cumulative ",
     );
     if k < 5 {
-        return one(to_bits(amount(k, from_bits(x[0]), from_bits(x[1]))));
+        return Some(one(to_bits(amount(k, from_bits(x[0]), from_bits(x[1])))));
     }
     if k == 5 {
-        return spent(x[0], x[1]);
+        return Some(spent(x[0], x[1]));
     }
     if k < 9 {
-        return of_cost(k, cost(x[0], x[1], x[2]), cost(x[3], x[4], x[5]));
+        return Some(of_cost(k, cost(x[0], x[1], x[2]), cost(x[3], x[4], x[5])));
     }
     spread(k, x[0], x[1], x[2])
 }

@@ -1,24 +1,13 @@
 // What a function gave: up to four numbers, signed ones in two's complement.
 #[derive(Clone, Copy)]
 pub struct Answer {
-    pub known: bool,
     pub values: [u64; 4],
     pub count: usize,
-}
-
-// There is no function of that name.
-pub fn unknown() -> Answer {
-    Answer {
-        known: false,
-        values: [0; 4],
-        count: 0,
-    }
 }
 
 // What was given is not told in numbers.
 pub fn untold() -> Answer {
     Answer {
-        known: true,
         values: [0; 4],
         count: 0,
     }
@@ -26,7 +15,6 @@ pub fn untold() -> Answer {
 
 pub fn one(x: u64) -> Answer {
     Answer {
-        known: true,
         values: [x, 0, 0, 0],
         count: 1,
     }
@@ -34,7 +22,6 @@ pub fn one(x: u64) -> Answer {
 
 pub fn two(x: u64, y: u64) -> Answer {
     Answer {
-        known: true,
         values: [x, y, 0, 0],
         count: 2,
     }
@@ -42,7 +29,6 @@ pub fn two(x: u64, y: u64) -> Answer {
 
 pub fn three(x: u64, y: u64, z: u64) -> Answer {
     Answer {
-        known: true,
         values: [x, y, z, 0],
         count: 3,
     }
@@ -50,7 +36,6 @@ pub fn three(x: u64, y: u64, z: u64) -> Answer {
 
 pub fn four(x: u64, y: u64, z: u64, w: u64) -> Answer {
     Answer {
-        known: true,
         values: [x, y, z, w],
         count: 4,
     }
@@ -58,9 +43,6 @@ pub fn four(x: u64, y: u64, z: u64, w: u64) -> Answer {
 
 // Whether the numbers of a line behind its sign are those of the answer.
 pub fn agrees(a: Answer, values: [u64; 16], given: usize, count: usize) -> bool {
-    if !a.known {
-        return false;
-    }
     let n = a.count;
     if 4 < n || 12 < given || count != given + n {
         return false;

@@ -1,5 +1,5 @@
 // The crates `dates` and `holidays`.
-use crate::answer::{Answer, four, one, two, unknown};
+use crate::answer::{Answer, four, one, two};
 use crate::names::place;
 use dates::YearMonthDay;
 use dates::week::Weekday;
@@ -44,15 +44,17 @@ fn holiday(days: i32) -> Answer {
     one(u64::from(holidays::is_holiday(days)))
 }
 
-pub fn answer(name: &[u8], x: [u64; 16]) -> Answer {
+// What the function of that name gives; nothing where there is none.
+pub fn answer(name: &[u8], x: [u64; 16]) -> Option<Answer> {
     let z = signed(x[0]);
-    match place(name, b"from_ymd from_days ymd weekday easter is_holiday ") {
+    let given = match place(name, b"from_ymd from_days ymd weekday easter is_holiday ") {
         0 => day(dates::from_ymd(z, unsigned(x[1]), unsigned(x[2]))),
         1 => day(dates::from_days(z)),
         2 => date(dates::ymd(z)),
         3 => weekday(dates::weekday(z)),
         4 => day(computus::easter(z)),
         5 => holiday(z),
-        _ => unknown(),
-    }
+        _ => return None,
+    };
+    Some(given)
 }

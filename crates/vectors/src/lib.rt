@@ -16,38 +16,36 @@ ghost use Rattle.std.specs.Prelude.{◌≤◌, length};
 
 use crate::answer::Answer;
 
-// What a function gave, and whether its line says the same.
+// How a line differs: from what its function gave, or since it names no function.
 #[derive(Clone, Copy)]
-pub struct Outcome {
-    pub answer: Answer,
-    pub same: bool,
+pub enum Difference {
+    Gave(Answer),
+    NoFunction,
 }
 
-// A line that names no function.
-pub fn unknown() -> Outcome {
-    Outcome {
-        answer: answer::unknown(),
-        same: false,
+// Of a line that is replayed: nothing where it says what its function gave.
+pub type Outcome = Result<(), Difference>;
+
+// A line of a function, and whether it says what that gave.
+pub fn compared(a: Answer, same: bool) -> Outcome {
+    if same {
+        return Ok(());
     }
+    Err(Difference::Gave(a))
 }
 
 // A line of a call, whose answer is not told in numbers.
 pub fn untold(same: bool) -> Outcome {
-    Outcome {
-        answer: answer::untold(),
-        same: same,
-    }
+    compared(answer::untold(), same)
 }
 
-// What the function of that name gives for the arguments x.
-fn given(name: &[u8], x: [u64; 16]) -> Answer {
-    let a = amounts::answer(name, x);
-    if a.known {
-        return a;
+// What the function of that name gives for the arguments x; nothing where there is none.
+fn given(name: &[u8], x: [u64; 16]) -> Option<Answer> {
+    if let Some(a) = amounts::answer(name, x) {
+        return Some(a);
     }
-    let f = reals::answer(name, x);
-    if f.known {
-        return f;
+    if let Some(a) = reals::answer(name, x) {
+        return Some(a);
     }
     days::answer(name, x)
 }
@@ -57,11 +55,9 @@ pub fn replay(s: &[u8], end: usize) -> Outcome
     requires { end ≤ length s.now }
 {
     let line = line::numbers(s, end);
-    let values = line.values;
-    let a = given(&s[..end], values);
-    Outcome {
-        answer: a,
-        same: line::says(s, line, a),
+    match given(&s[..end], line.values) {
+        Some(a) => compared(a, line::says(s, line, a)),
+        None => Err(Difference::NoFunction),
     }
 }
 

@@ -1,5 +1,5 @@
 // The crate `floats`.
-use crate::answer::{Answer, one, two, unknown};
+use crate::answer::{Answer, one, two};
 use crate::names::place;
 use money::words::{from_bits, to_bits};
 
@@ -26,11 +26,12 @@ fn product(x: f64, y: f64) -> f64 {
     floats::both(Some(x), Some(y)).unwrap_or(0.0)
 }
 
-pub fn answer(name: &[u8], x: [u64; 16]) -> Answer {
+// What the function of that name gives; nothing where there is none.
+pub fn answer(name: &[u8], x: [u64; 16]) -> Option<Answer> {
     let z = from_bits(x[0]);
     let f = float(x[0]);
     let g = float(x[1]);
-    match place(
+    let given = match place(
         name,
         b"whole clamp01 product nearest ratio earned percent_share ",
     ) {
@@ -41,6 +42,7 @@ pub fn answer(name: &[u8], x: [u64; 16]) -> Answer {
         4 => index(floats::ratio(z, from_bits(x[1]))),
         5 => one(to_bits(floats::earned(z, g))),
         6 => one(floats::bits(floats::share(z))),
-        _ => unknown(),
-    }
+        _ => return None,
+    };
+    Some(given)
 }
