@@ -1,4 +1,4 @@
-// What is answered to a call: document 01's table of refusals, and the book opened for it.
+// What is answered to a call, and the book opened for it.
 #![tactic(auto)]
 
 ghost use Rattle.std.specs.Prelude.{◌≡◌};

@@ -20,10 +20,10 @@ use Rattle.format.specs.declared.Refusal.{Refusal}
 
 -- a number that is in its range
 in_range_lem :
-    (s : List ℕ) (i v next low bound : ℕ) (code : Reason) (place : ℕ) → Ok (v, next) ≡ number_at s i → low ≤ v → v < bound →
-    (v, Ok next) ≡ ranged low bound code place s (Ok i)
+    (s : List ℕ) (i v next low bound : ℕ) (reason : Reason) (place : ℕ) → Ok (v, next) ≡ number_at s i → low ≤ v → v < bound →
+    (v, Ok next) ≡ ranged low bound reason place s (Ok i)
 unfolding ranged found in_range
-in_range_lem s i v next low bound code place e l b = rw (← e, le-ltb _ _ l, lt-ltb _ _ b)
+in_range_lem s i v next low bound reason place e l b = rw (← e, le-ltb _ _ l, lt-ltb _ _ b)
 
 -- a number of few bytes
 module _ (s : List ℕ) (i : ℕ) (n : Few) (r : IsFew s i (Some n)) where
@@ -31,8 +31,8 @@ module _ (s : List ℕ) (i : ℕ) (n : Few) (r : IsFew s i (Some n)) where
   unfolding number found
   any_few = rw (← r)
 
-  pub ranged_few : (low bound : ℕ) (code : Reason) (place : ℕ) → Fits n low bound → (n.value, Ok n.next) ≡ ranged low bound code place s (Ok i)
-  ranged_few low bound code place f = in_range_lem s i _ _ low bound code place r f.least f.below
+  pub ranged_few : (low bound : ℕ) (reason : Reason) (place : ℕ) → Fits n low bound → (n.value, Ok n.next) ≡ ranged low bound reason place s (Ok i)
+  ranged_few low bound reason place f = in_range_lem s i _ _ low bound reason place r f.least f.below
 
 -- an O field whose mark is one byte
 module _ (s : List ℕ) (i mark : ℕ) (e : IsMark s i mark) where

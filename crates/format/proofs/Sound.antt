@@ -36,9 +36,9 @@ right_last (suc k) zero u h l = go (ltb (suc (suc k)) 10) refl
     go false e = e
 right_last (suc k) (suc n) u h l = rw (ne_eqb (suc n) 0 (λ z. omega arith), ne_eqb (suc (suc k)) 1 (λ z. omega arith))
 
-tested_refused : {A : Type 0} (d : A) (code : Reason) (place : ℕ) (t : Bool) (a : A) (e : Refusal) → tested d code place t (a, Err e) ≡ (a, Err e)
+tested_refused : {A : Type 0} (d : A) (reason : Reason) (place : ℕ) (t : Bool) (a : A) (e : Refusal) → tested d reason place t (a, Err e) ≡ (a, Err e)
 unfolding tested
-tested_refused d code place t a e = refl
+tested_refused d reason place t a e = refl
 
 pub sound : Sound
 sound = record { tenth = right_tenth; last = right_last; refused = tested_refused }
@@ -56,8 +56,8 @@ number_back = numbers.number_back sound
 pub number_inverse : Inverse number write_number (λ (v : ℕ). v < 2 ^ 64)
 number_inverse = inverse.number_inverse sound
 
-pub ranged_inverse : (low bound : ℕ) (code : Reason) (place : ℕ) → Inverse (ranged low bound code place) write_number (Range low bound)
-ranged_inverse low bound code place = inverse.ranged_inverse low bound code place sound
+pub ranged_inverse : (low bound : ℕ) (reason : Reason) (place : ℕ) → Inverse (ranged low bound reason place) write_number (Range low bound)
+ranged_inverse low bound reason place = inverse.ranged_inverse low bound reason place sound
 
 pub optional_inverse :
     {A : Type 0} {q : ℕ → Reader A} {w : Writer A} {ok : A → Type 0} → ((place : ℕ) → Inverse (q place) w ok) →
@@ -65,11 +65,11 @@ pub optional_inverse :
 optional_inverse Q = inverse.optional_inverse sound Q
 
 pub passing_inverse :
-    {A : Type 0} {r : Reader A} {w : Writer A} {ok : A → Type 0} (d : A) (t : A → Bool) (code : Reason) → Inverse r w ok →
-    Inverse (passing d t code r) w (λ (v : A). ok v × (t v ≡ true))
-passing_inverse d t code R = inverse.passing_inverse d t code R sound
+    {A : Type 0} {r : Reader A} {w : Writer A} {ok : A → Type 0} (d : A) (t : A → Bool) (reason : Reason) → Inverse r w ok →
+    Inverse (passing d t reason r) w (λ (v : A). ok v × (t v ≡ true))
+passing_inverse d t reason R = inverse.passing_inverse d t reason R sound
 
-pub passing_within : {A : Type 0} (d : A) (t : A → Bool) (code : Reason) {r : Reader A} → Within r → Within (passing d t code r)
+pub passing_within : {A : Type 0} (d : A) (t : A → Bool) (reason : Reason) {r : Reader A} → Within r → Within (passing d t reason r)
 passing_within = within.passing_within sound
 
 pub signed_inverse : Inverse signed write_signed Sendable

@@ -84,16 +84,16 @@ iso c f g fg gf =
       within = λ sound. mapped_within f (c.within sound);
     }
 
--- what a test refuses with `code` at the place where it begins; it then reads as d
+-- what a test refuses with `reason` at the place where it begins; it then reads as d
 unfoldable pub test : {A : Type 0} → A → (A → Bool) → Reason → Codec A → Codec A
-test d t code c =
+test d t reason c =
     record {
-      read = passing d t code c.read;
+      read = passing d t reason c.read;
       write = c.write;
       ok = λ v. c.ok v × (t v ≡ true);
-      inverse = λ sound. passing_inverse d t code (c.inverse sound) sound;
+      inverse = λ sound. passing_inverse d t reason (c.inverse sound) sound;
       bytes = c.bytes;
-      within = λ sound. passing_within sound d t code (c.within sound);
+      within = λ sound. passing_within sound d t reason (c.within sound);
     }
 
 -- a value that is there only where b is true

@@ -19,16 +19,16 @@ pub record Kind (A : Type 0) : Type 1 where
   pub bytes : (a : A) → Bytes (write a)
   pub within : WithinAt read
 
--- a number from `low` to below `bound`; outside, the refusal `code`
+-- a number from `low` to below `bound`; outside, the refusal `reason`
 unfoldable pub range : ℕ → ℕ → Reason → Kind ℕ
-range low bound code =
+range low bound reason =
     record {
-      read = ranged low bound code;
+      read = ranged low bound reason;
       write = write_number;
       ok = Range low bound;
-      inverse = λ sound place. ranged_inverse low bound code place sound;
+      inverse = λ sound place. ranged_inverse low bound reason place sound;
       bytes = number_bytes;
-      within = ranged_within low bound code;
+      within = ranged_within low bound reason;
     }
 
 -- U: a number, here from `low` to `most`, else refusal 4

@@ -68,23 +68,23 @@ pub record Range (low bound v : ℕ) : Type 0 where
   pub below : v < bound
   pub fits : v < 2 ^ 64
 
-module _ (low bound : ℕ) (code : Reason) (place : ℕ) where
+module _ (low bound : ℕ) (reason : Reason) (place : ℕ) where
   ranged_read :
       (s : List ℕ) (i v j : ℕ) → number_at s i ≡ Ok (v, j) → low ≤ v → v < bound →
-      ranged low bound code place s (Ok i) ≡ (v, Ok j)
+      ranged low bound reason place s (Ok i) ≡ (v, Ok j)
   unfolding ranged found in_range
   ranged_read s i v j e l h = rw (e, le-ltb _ _ l, lt-ltb _ _ h)
 
   ranged_found :
-      Sound → (s : List ℕ) → Bytes s → (i j : ℕ) (m : Num) → number_at s i ≡ m → (found (in_range low bound code place m)).1 ≡ Ok j →
-      Held write_number (Range low bound) s i j (found (in_range low bound code place m)).0
+      Sound → (s : List ℕ) → Bytes s → (i j : ℕ) (m : Num) → number_at s i ≡ m → (found (in_range low bound reason place m)).1 ≡ Ok j →
+      Held write_number (Range low bound) s i j (found (in_range low bound reason place m)).0
   unfolding found in_range
   ranged_found sound s b i j (Err x) e h = never h
   ranged_found sound s b i j (Ok (v, k)) e h = go (ltb v low) (ltb v bound) refl refl
     where
       go :
           (x y : Bool) → ltb v low ≡ x → ltb v bound ≡ y →
-          Held write_number (Range low bound) s i j (found (in_range low bound code place (Ok (v, k)))).0
+          Held write_number (Range low bound) s i j (found (in_range low bound reason place (Ok (v, k)))).0
       go true y p q = never (rw p at h)
       go false false p q = never (rw (p, q) at h)
       go false true p q =
@@ -93,7 +93,7 @@ module _ (low bound : ℕ) (code : Reason) (place : ℕ) where
           let r : Range low bound v = record { least = ltb-false _ _ p; below = ltb-true _ _ q; fits = g.small } in
           rw (p, q) (record { fine = r; text = rw (← z) g.text; long = rw (← z) g.long })
 
-  pub ranged_inverse : Sound → Inverse (ranged low bound code place) write_number (Range low bound)
+  pub ranged_inverse : Sound → Inverse (ranged low bound reason place) write_number (Range low bound)
   unfolding ranged
   ranged_inverse sound =
       record {
@@ -270,30 +270,30 @@ module _
 
 -- ---- a value that passes a test
 
-module _ {A : Type 0} {r : Reader A} {w : Writer A} {ok : A → Type 0} (d : A) (t : A → Bool) (code : Reason) (R : Inverse r w ok) where
+module _ {A : Type 0} {r : Reader A} {w : Writer A} {ok : A → Type 0} (d : A) (t : A → Bool) (reason : Reason) (R : Inverse r w ok) where
   passing_forth :
       (v : A) → ok v → t v ≡ true → (s rest : List ℕ) (i : ℕ) → drop i s ≡ w v ++ rest →
-      passing d t code r s (Ok i) ≡ (v, Ok (i + length (w v)))
+      passing d t reason r s (Ok i) ≡ (v, Ok (i + length (w v)))
   unfolding passing tested
   passing_forth v h k s rest i e = rw (passing, R.forth v h s rest i e, k)
 
   passing_back :
       (s : List ℕ) → Bytes s → (i j : ℕ) (c : Pos) (b : Bool) → (r s (Ok i)).1 ≡ c → t (r s (Ok i)).0 ≡ b →
-      (tested d code i b ((r s (Ok i)).0, c)).1 ≡ Ok j →
-      Held w (λ (v : A). ok v × (t v ≡ true)) s i j (tested d code i b ((r s (Ok i)).0, c)).0
+      (tested d reason i b ((r s (Ok i)).0, c)).1 ≡ Ok j →
+      Held w (λ (v : A). ok v × (t v ≡ true)) s i j (tested d reason i b ((r s (Ok i)).0, c)).0
   unfolding tested
   passing_back s y i j (Err x) b m k e = never e
   passing_back s y i j (Ok q) false m k e = never e
   passing_back s y i j (Ok q) true m k e = let h = R.back s y i j (m ∙ e) in record { fine = (h.fine, k); text = h.text; long = h.long }
 
-  passing_stays : Sound → (s : List ℕ) (e : Refusal) → (passing d t code r s (Err e)).1 ≡ Err e
+  passing_stays : Sound → (s : List ℕ) (e : Refusal) → (passing d t reason r s (Err e)).1 ≡ Err e
   unfolding passing place_of
   passing_stays sound s e =
-      let left = sound.refused d code e.place (t (r s (Err e)).0) (r s (Err e)).0 e in
-      let kept : (tested d code e.place (t (r s (Err e)).0) ((r s (Err e)).0, Err e)).1 ≡ Err e = ap (λ (v : A × Pos). v.1) left in
-      subst (λ (c : Pos). (tested d code e.place (t (r s (Err e)).0) ((r s (Err e)).0, c)).1 ≡ Err e) (sym (R.stays s e)) kept
+      let left = sound.refused d reason e.place (t (r s (Err e)).0) (r s (Err e)).0 e in
+      let kept : (tested d reason e.place (t (r s (Err e)).0) ((r s (Err e)).0, Err e)).1 ≡ Err e = ap (λ (v : A × Pos). v.1) left in
+      subst (λ (c : Pos). (tested d reason e.place (t (r s (Err e)).0) ((r s (Err e)).0, c)).1 ≡ Err e) (sym (R.stays s e)) kept
 
-  pub passing_inverse : Sound → Inverse (passing d t code r) w (λ (v : A). ok v × (t v ≡ true))
+  pub passing_inverse : Sound → Inverse (passing d t reason r) w (λ (v : A). ok v × (t v ≡ true))
   unfolding passing place_of
   passing_inverse sound =
       record {

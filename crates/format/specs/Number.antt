@@ -29,10 +29,10 @@ groups (suc left) s place at =
 unfoldable pub number_at : List ℕ → ℕ → Num
 number_at s place = groups 10 s place place
 
--- the number, where it is from `low` to below `bound`; outside, the refusal `code` at `place`
+-- the number, where it is from `low` to below `bound`; outside, the refusal `reason` at `place`
 unfoldable pub in_range : ℕ → ℕ → Reason → ℕ → Num → Num
-in_range low bound code place (Ok (v, next)) = cond (ltb v low) (refused code place) (cond (ltb v bound) (Ok (v, next)) (refused code place))
-in_range low bound code place (Err e) = Err e
+in_range low bound reason place (Ok (v, next)) = cond (ltb v low) (refused reason place) (cond (ltb v bound) (Ok (v, next)) (refused reason place))
+in_range low bound reason place (Err e) = Err e
 
 -- n in at most `left` groups
 unfoldable pub write_groups : ℕ → ℕ → List ℕ

@@ -7,7 +7,7 @@ use Rattle.format.specs.declared.Refusal.{Refusal}
 abbrev pub Pos : Type 0
 Pos = Result ℕ Refusal
 
--- one number: its value and the position after it
+-- one number: its value and the position after it, or the refusal
 abbrev pub Num : Type 0
 Num = Result (ℕ × ℕ) Refusal
 

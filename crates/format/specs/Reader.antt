@@ -27,10 +27,10 @@ unfoldable pub number : Reader ℕ
 number s (Ok i) = found (number_at s i)
 number s (Err e) = (0, Err e)
 
--- a number from `low` to below `bound`; outside, the refusal `code` at `place`
+-- a number from `low` to below `bound`; outside, the refusal `reason` at `place`
 unfoldable pub ranged : ℕ → ℕ → Reason → ℕ → Reader ℕ
-ranged low bound code place s (Ok i) = found (in_range low bound code place (number_at s i))
-ranged low bound code place s (Err e) = (0, Err e)
+ranged low bound reason place s (Ok i) = found (in_range low bound reason place (number_at s i))
+ranged low bound reason place s (Err e) = (0, Err e)
 
 -- what is refused at the place where it begins
 unfoldable pub here : {A : Type 0} → (ℕ → Reader A) → Reader A
@@ -81,11 +81,11 @@ unfoldable pub write_given : {A : Type 0} → Writer A → Writer (Option A)
 write_given w None = []
 write_given w (Some a) = w a
 
--- a value that was read, and whether it passes a test: where it fails, the refusal `code` at `place`, which reads as d
+-- a value that was read, and whether it passes a test: where it fails, the refusal `reason` at `place`, which reads as d
 unfoldable pub tested : {A : Type 0} → A → Reason → ℕ → Bool → A × Pos → A × Pos
-tested d code place t (a, Ok i) = cond t (a, Ok i) (d, refused code place)
-tested d code place t (a, Err e) = (a, Err e)
+tested d reason place t (a, Ok i) = cond t (a, Ok i) (d, refused reason place)
+tested d reason place t (a, Err e) = (a, Err e)
 
 -- the same, refused at the place where the value begins
 unfoldable pub passing : {A : Type 0} → A → (A → Bool) → Reason → Reader A → Reader A
-passing d t code r s c = let a = r s c in tested d code (place_of c) (t a.0) a
+passing d t reason r s c = let a = r s c in tested d reason (place_of c) (t a.0) a

@@ -9,4 +9,4 @@ use Rattle.format.specs.declared.Reason.{Reason}
 pub record Sound : Type 1 where
   pub tenth : (b : ℕ) → wrong_group 1 b ≡ false → b ≤ 1
   pub last : (k n : ℕ) → n < 2 * 128 ^ k → n < 128 → (k < 9 → 0 < n) → wrong_group (suc k) n ≡ false
-  pub refused : {A : Type 0} (d : A) (code : Reason) (place : ℕ) (t : Bool) (a : A) (e : Refusal) → tested d code place t (a, Err e) ≡ (a, Err e)
+  pub refused : {A : Type 0} (d : A) (reason : Reason) (place : ℕ) (t : Bool) (a : A) (e : Refusal) → tested d reason place t (a, Err e) ≡ (a, Err e)

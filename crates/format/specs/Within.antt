@@ -31,27 +31,27 @@ number_place_lem s (Err e) h = h
 pub number_within : Within number
 number_within = record { place = number_place_lem }
 
-range_place : (low bound : ℕ) (code : Reason) (at n : ℕ) (m : Num) → at ≤ n → number_place m ≤ n → number_place (in_range low bound code at m) ≤ n
+range_place : (low bound : ℕ) (reason : Reason) (at n : ℕ) (m : Num) → at ≤ n → number_place m ≤ n → number_place (in_range low bound reason at m) ≤ n
 unfolding in_range number_place
-range_place low bound code at n (Err e) l h = h
-range_place low bound code at n (Ok (v, next)) l h = go (ltb v low) (ltb v bound)
+range_place low bound reason at n (Err e) l h = h
+range_place low bound reason at n (Ok (v, next)) l h = go (ltb v low) (ltb v bound)
   where
-    go : (x y : Bool) → number_place (cond x (refused code at) (cond y (Ok (v, next)) (refused code at))) ≤ n
+    go : (x y : Bool) → number_place (cond x (refused reason at) (cond y (Ok (v, next)) (refused reason at))) ≤ n
     go true y = l
     go false true = h
     go false false = l
 
 ranged_place :
-    (low bound : ℕ) (code : Reason) (at : ℕ) (s : List ℕ) (c : Pos) → at ≤ length s → place_of c ≤ length s →
-    place_of (ranged low bound code at s c).1 ≤ length s
+    (low bound : ℕ) (reason : Reason) (at : ℕ) (s : List ℕ) (c : Pos) → at ≤ length s → place_of c ≤ length s →
+    place_of (ranged low bound reason at s c).1 ≤ length s
 unfolding ranged place_of
-ranged_place low bound code at s (Ok i) l h =
+ranged_place low bound reason at s (Ok i) l h =
     let m = number_at s i in
-    rw (found_place (in_range low bound code at m)) (range_place low bound code at (length s) m l (number_at_within s i h))
-ranged_place low bound code at s (Err e) l h = h
+    rw (found_place (in_range low bound reason at m)) (range_place low bound reason at (length s) m l (number_at_within s i h))
+ranged_place low bound reason at s (Err e) l h = h
 
-pub ranged_within : (low bound : ℕ) (code : Reason) → WithinAt (ranged low bound code)
-ranged_within low bound code = record { place = ranged_place low bound code }
+pub ranged_within : (low bound : ℕ) (reason : Reason) → WithinAt (ranged low bound reason)
+ranged_within low bound reason = record { place = ranged_place low bound reason }
 
 either_place :
     {A : Type 0} (b : Bool) (x y : A) (c d : Pos) (n : ℕ) → place_of c ≤ n → place_of d ≤ n →
@@ -96,14 +96,14 @@ given_within R true = record { place = λ s c h. R.place s c h }
 given_within R false = record { place = λ s c h. h }
 
 tested_place :
-    Sound → {A : Type 0} (d : A) (code : Reason) (at n : ℕ) (t : Bool) (a : A) (c : Pos) → at ≤ n → place_of c ≤ n →
-    place_of (tested d code at t (a, c)).1 ≤ n
+    Sound → {A : Type 0} (d : A) (reason : Reason) (at n : ℕ) (t : Bool) (a : A) (c : Pos) → at ≤ n → place_of c ≤ n →
+    place_of (tested d reason at t (a, c)).1 ≤ n
 unfolding tested place_of
-tested_place sound d code at n true a (Ok i) l h = h
-tested_place sound d code at n false a (Ok i) l h = l
-tested_place sound {A} d code at n t a (Err e) l h = subst (λ (v : A × Pos). place_of v.1 ≤ n) (sym (sound.refused d code at t a e)) h
+tested_place sound d reason at n true a (Ok i) l h = h
+tested_place sound d reason at n false a (Ok i) l h = l
+tested_place sound {A} d reason at n t a (Err e) l h = subst (λ (v : A × Pos). place_of v.1 ≤ n) (sym (sound.refused d reason at t a e)) h
 
-pub passing_within : Sound → {A : Type 0} (d : A) (t : A → Bool) (code : Reason) {r : Reader A} → Within r → Within (passing d t code r)
+pub passing_within : Sound → {A : Type 0} (d : A) (t : A → Bool) (reason : Reason) {r : Reader A} → Within r → Within (passing d t reason r)
 unfolding passing
-passing_within sound d t code {r} R =
-    record { place = λ s c h. tested_place sound d code (place_of c) (length s) (t (r s c).0) (r s c).0 (r s c).1 h (R.place s c h) }
+passing_within sound d t reason {r} R =
+    record { place = λ s c h. tested_place sound d reason (place_of c) (length s) (t (r s c).0) (r s c).0 (r s c).1 h (R.place s c h) }

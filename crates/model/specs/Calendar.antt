@@ -1,5 +1,5 @@
 -- Which dates a calendar works.
-use Rattle.std.specs.Prelude.{ℕ, ◌/◌, ◌%◌, ◌^◌, Bool, false, not, cond, ◌&&◌, ◌||◌, List, [], ◌∷◌, eqb, pos, Option as Optional, Some, None as no_weekday, None, Option, unwrap_or}
+use Rattle.std.specs.Prelude.{ℕ, ◌/◌, ◌%◌, ◌^◌, Bool, false, not, cond, ◌&&◌, ◌||◌, List, [], ◌∷◌, eqb, pos, Some, None, Option, unwrap_or}
 use Rattle.format.specs.declared.Region.{Region}
 use Rattle.format.specs.declared.Region.TheVariants as regions
 use Rattle.format.specs.Book.{Exception, Calendar, Activity, Book}
@@ -24,8 +24,8 @@ is_region_holiday regions.None date = false
 is_region_holiday regions.Brazil date = is_holiday (pos date)
 
 -- the weekday's bit of the week, bit 0 Monday
-unfoldable pub works_on : ℕ → Optional Weekday → Bool
-works_on week no_weekday = false
+unfoldable pub works_on : ℕ → Option Weekday → Bool
+works_on week None = false
 works_on week (Some weekday) = eqb (week / 2 ^ index_of weekday % 2) 1
 
 -- the extra days, then the holidays and the region, then the week

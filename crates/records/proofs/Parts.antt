@@ -44,17 +44,17 @@ amount_read {z} p h = rw (kept z h) p
 
 -- what a test may refuse
 pub test_read :
-    {A : Type 0} (d : A) (t : A → Bool) (code : Reason) (a : Codec A) (s : List ℕ) (c : Pos) {mid : Pos} {x : A} {r : A × Pos} →
-    (x, mid) ≡ a.read s c → r ≡ tested d code (place_of c) (t x) (x, mid) → r ≡ (test d t code a).read s c
+    {A : Type 0} (d : A) (t : A → Bool) (reason : Reason) (a : Codec A) (s : List ℕ) (c : Pos) {mid : Pos} {x : A} {r : A × Pos} →
+    (x, mid) ≡ a.read s c → r ≡ tested d reason (place_of c) (t x) (x, mid) → r ≡ (test d t reason a).read s c
 unfolding test passing
-test_read d t code a s c p e = rw (← p) e
+test_read d t reason a s c p e = rw (← p) e
 
 -- a test whose outcome is known before
 pub test_known :
-    {A : Type 0} (d : A) (t : A → Bool) (code : Reason) (a : Codec A) (s : List ℕ) (c : Pos) {b : Bool} → b ≡ t (a.read s c).0 →
-    (test d (λ x. b) code a).read s c ≡ (test d t code a).read s c
+    {A : Type 0} (d : A) (t : A → Bool) (reason : Reason) (a : Codec A) (s : List ℕ) (c : Pos) {b : Bool} → b ≡ t (a.read s c).0 →
+    (test d (λ x. b) reason a).read s c ≡ (test d t reason a).read s c
 unfolding test passing
-test_known d t code a s c h = rw h
+test_known d t reason a s c h = rw h
 
 -- what leads a record, and then the rest of it
 pub head_read :

@@ -15,18 +15,18 @@ use Rattle.format.specs.Codec.{field}
 use Rattle.format.specs.Position.{Num, Pos, refused}
 use Rattle.format.specs.declared.Reason.TheVariants.{CountOutOfRange}
 
-module _ (low bound : ℕ) (code : Reason) (place : ℕ) {most : ℕ} (h : bound ≤ most) (some : 0 < most) where
-  found_below : (x : Num) → (found (in_range low bound code place x)).0 < most
+module _ (low bound : ℕ) (reason : Reason) (place : ℕ) {most : ℕ} (h : bound ≤ most) (some : 0 < most) where
+  found_below : (x : Num) → (found (in_range low bound reason place x)).0 < most
   unfolding found in_range
   found_below (Err e) = some
   found_below (Ok (v, q)) = go (ltb v low) (ltb v bound) refl
     where
-      go : (a b : Bool) → ltb v bound ≡ b → (found (cond a (refused code place) (cond b (Ok (v, q)) (refused code place)))).0 < most
+      go : (a b : Bool) → ltb v bound ≡ b → (found (cond a (refused reason place) (cond b (Ok (v, q)) (refused reason place)))).0 < most
       go true b e = some
       go false true e = omega (arith, ltb-true v bound e)
       go false false e = some
 
-  pub ranged_below : (s : List ℕ) (p : Pos) → (ranged low bound code place s p).0 < most
+  pub ranged_below : (s : List ℕ) (p : Pos) → (ranged low bound reason place s p).0 < most
   unfolding ranged
   ranged_below s (Ok i) = found_below (number_at s i)
   ranged_below s (Err e) = some

@@ -36,11 +36,11 @@ index_small n s p h =
     chosen_small (eqb mark.0 0) mark.1 (ranged 0 n OutOfRange (place_of p) s mark.1) (ranged_below 0 n OutOfRange (place_of p) h (omega arith) s mark.1)
 
 -- and so has what a test leaves of it
-pub tested_small : (code : Reason) (place : ℕ) (t : Bool) (a : Option ℕ) (q : Pos) → Small a → Small (tested None code place t (a, q)).0
+pub tested_small : (reason : Reason) (place : ℕ) (t : Bool) (a : Option ℕ) (q : Pos) → Small a → Small (tested None reason place t (a, q)).0
 unfolding tested
-tested_small code place true a (Ok i) h = h
-tested_small code place false a (Ok i) h = tt
-tested_small code place t a (Err e) h = h
+tested_small reason place true a (Ok i) h = h
+tested_small reason place false a (Ok i) h = tt
+tested_small reason place t a (Err e) h = h
 
 -- ---- the marks
 -- what is marked is what a budget before names
