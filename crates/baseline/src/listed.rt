@@ -75,6 +75,7 @@ fn fill_budgets(schedule: &[u64], lines: &[u64], costs: &[i64], out: &mut [i64])
 }
 
 // With a table of at most N numbers for the lines.
+#[inline(never)]
 fn list_by<const N: usize>(
     book: &[u8],
     list: Section,

@@ -116,6 +116,7 @@ fn lines_in(
 }
 
 // The same, with arrays of its own.
+#[inline(never)]
 fn sized_lines<const SCHEDULE: usize, const PARENTS: usize, const COSTS: usize>(
     book: &[u8],
     opened: Opened,

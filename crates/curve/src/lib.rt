@@ -99,6 +99,7 @@ fn rows_in(
 }
 
 // The same, with tables of its own.
+#[inline(never)]
 fn sized_rows<const DAYS: usize, const TABLE: usize>(
     book: &[u8],
     asked: Asked,

@@ -67,6 +67,7 @@ fn date_by(
 }
 
 // With a table of its own.
+#[inline(never)]
 fn date_sized<const DAYS: usize>(
     book: &[u8],
     reach: Reach,

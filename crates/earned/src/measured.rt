@@ -111,6 +111,7 @@ fn measure_by(
 }
 
 // With a table of its own.
+#[inline(never)]
 fn measure_sized<const UNITS: usize>(
     book: &[u8],
     opened: Opened,

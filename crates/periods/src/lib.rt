@@ -48,6 +48,7 @@ fn put_figures(
 }
 
 // With tables of its own.
+#[inline(never)]
 fn sized_periods<const PERIODS: usize, const FIGURES: usize>(
     book: &[u8],
     opened: Opened,

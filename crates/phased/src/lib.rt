@@ -49,6 +49,7 @@ fn phase_by(
 }
 
 // The same, with tables of its own.
+#[inline(never)]
 fn phase_sized<const SCHEDULE: usize, const COSTS: usize>(
     book: &[u8],
     opened: Opened,

@@ -18,6 +18,7 @@ use tree::table::VALUE_WIDTH;
 use value::lines::put_outline;
 
 // The rows from the parents and the rolled figures, with room for the tree's columns and the lines.
+#[inline(never)]
 fn list_sized<const FIRST: usize, const NEXT: usize, const LINES: usize>(
     parents: &[u64],
     rolled: &[i64],
@@ -71,6 +72,7 @@ fn roll_rows(
 }
 
 // The same, with tables of its own.
+#[inline(never)]
 fn roll_sized<const PARENTS: usize, const ROLLED: usize>(
     book: &[u8],
     opened: Opened,

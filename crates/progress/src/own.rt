@@ -37,6 +37,7 @@ fn make_own(
 }
 
 // The same, with tables of its own.
+#[inline(never)]
 fn own_sized<const COSTS: usize, const LISTED: usize, const BUDGETS: usize>(
     book: &[u8],
     opened: Opened,

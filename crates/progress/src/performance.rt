@@ -31,6 +31,7 @@ fn measure_by(book: &[u8], opened: Opened, activity: u64, units: &mut [i64]) -> 
 }
 
 // The same, with a table of its own.
+#[inline(never)]
 fn measure_sized<const UNITS: usize>(book: &[u8], opened: Opened, activity: u64) -> f64
     requires opened { IsOpened book.now opened }
     requires room { opened.plan.activities.count * 2 ≤ UNITS }

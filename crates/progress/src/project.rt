@@ -32,6 +32,7 @@ fn add_leaves(
 }
 
 // The same, with tables of its own.
+#[inline(never)]
 fn sized_earned<const SCHEDULE: usize, const OWN: usize>(
     book: &[u8],
     opened: Opened,

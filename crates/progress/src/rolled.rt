@@ -38,6 +38,7 @@ fn roll_own(
 }
 
 // The parents and the rolled figures, with tables of its own.
+#[inline(never)]
 fn tree_sized<const SCHEDULE: usize, const OWN: usize>(
     book: &[u8],
     opened: Opened,
@@ -81,6 +82,7 @@ pub fn roll_tree(book: &[u8], opened: Opened, date: u64, parents: &mut [u64], ou
 }
 
 // The rolled figures alone, with a column of parents of its own.
+#[inline(never)]
 fn values_sized<const PARENTS: usize>(book: &[u8], opened: Opened, date: u64, out: &mut [i64])
     requires opened { IsOpened book.now opened }
     requires room { opened.plan.activities.count ≤ PARENTS }
@@ -117,6 +119,7 @@ fn fill_rows(book: &[u8], opened: Opened, date: u64, rolled: &mut [i64], out: &m
 }
 
 // The same, with a table of its own.
+#[inline(never)]
 fn fill_sized<const ROLLED: usize>(book: &[u8], opened: Opened, date: u64, out: &mut [u64])
     requires opened { IsOpened book.now opened }
     requires room { opened.plan.activities.count * 5 ≤ ROLLED }
@@ -162,6 +165,7 @@ fn figures_at(book: &[u8], opened: Opened, date: u64, activity: u64, rolled: &mu
 }
 
 // The same, with a table of its own.
+#[inline(never)]
 fn figures_sized<const ROLLED: usize>(
     book: &[u8],
     opened: Opened,

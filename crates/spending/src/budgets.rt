@@ -66,6 +66,7 @@ pub fn are_few(charges: u64, resources: u64) -> bool
 }
 
 // The rows, with arrays for the charges and the rates.
+#[inline(never)]
 fn sized_rows<const RATES: usize, const LINKS: usize, const UNITS: usize>(
     book: &[u8],
     asked: Asked,

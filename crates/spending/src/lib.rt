@@ -83,6 +83,7 @@ fn scheduled_rows(
 }
 
 // The same, with an array for the schedule.
+#[inline(never)]
 fn sized_rows<const SCHEDULE: usize>(
     book: &[u8],
     opened: Opened,

@@ -92,6 +92,7 @@ fn write_sums(
 }
 
 // The same, with an array of N for the sums.
+#[inline(never)]
 fn write_in<const N: usize>(
     days: &[u16; 1200],
     reach: Reach,

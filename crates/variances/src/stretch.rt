@@ -58,6 +58,7 @@ fn reach_all(schedule: &[u64], out: &[u64]) -> Stretch
 }
 
 // Over a stretch of dates, with tables of its own.
+#[inline(never)]
 fn count_sized<const DAYS: usize, const COUNTS: usize>(
     book: &[u8],
     list: Section,
