@@ -12,7 +12,7 @@ pub mod names;
 mod reals;
 pub mod text;
 
-ghost use Rattle.std.specs.Prelude.{◌≤◌, length};
+ghost use Rattle.std.specs.Prelude.{◌≤◌, ◌≡◌, length, IsTrue, IsFalse, IsOk};
 
 use crate::answer::Answer;
 
@@ -27,7 +27,10 @@ pub enum Difference {
 pub type Outcome = Result<(), Difference>;
 
 // A line of a function, and whether it says what that gave.
-pub fn compared(a: Answer, same: bool) -> Outcome {
+pub fn compared(a: Answer, same: bool) -> Outcome
+    ensures agrees { IsTrue same → IsOk result }
+    ensures differs { IsFalse same → result ≡ Err (Difference.Gave a) }
+{
     if same {
         return Ok(());
     }
