@@ -38,7 +38,7 @@ abbrev curve : List ℕ
 curve = replicate 6 0
 
 accepted : verdict bytes ≡ Ok 67
-accepted = ap (λ (l : List Pos). get_or l 0 (Ok 0)) read_back.1
+accepted = ap (λ (l : List (ℕ × Pos)). (get_or l 0 (0, Ok 0)).1) read_back.1
 
 written : Bytes bytes
 written i = subst (λ (s : List ℕ). get_or s i 0 < 256) example_written ((layout.book).bytes example i)

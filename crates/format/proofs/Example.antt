@@ -19,9 +19,10 @@ use Rattle.format.specs.Enumeration as e
 use Rattle.format.specs.Book.{Book}
 use Rattle.format.specs.Format as f
 use Rattle.format.specs.Format.{book}
-use Rattle.format.specs.Verdict.{begin, end, verdict, content}
-use Rattle.format.specs.declared.Reason.TheVariants.{BytesLeft, CountOutOfRange, EndsEarly, NotShortest, OutOfOrder, OutOfRange}
+use Rattle.format.specs.Verdict.{begin, end, verdict, content, answer_of, answer_number}
+use Rattle.format.specs.declared.Reason.TheVariants.{BookTooLong, EndsEarly, NotShortest, OutOfRange, CountOutOfRange, OutOfOrder, BytesLeft, UnknownActivity, DateOutOfRange, TooShort, SumOutOfRange}
 use Rattle.format.specs.Position.{Pos, refused}
+use Rattle.format.specs.Refusals.{reason_number}
 
 abbrev pub example : Book
 example =
@@ -93,43 +94,49 @@ example_written = refl
 abbrev head : List ℕ
 head = 1 ∷ 0 ∷ 0 ∷ 0 ∷ 1 ∷ 127 ∷ 0 ∷ []
 
--- byte strings, each with its verdict
-abbrev pub cases : List (List ℕ × Pos)
+-- byte strings, each with its number and its verdict
+abbrev pub cases : List (List ℕ × (ℕ × Pos))
 cases =
-    (bytes, Ok 67)
+    (bytes, (0, Ok 67))
     -- it ends where a byte is still due: at once, and behind nine bytes that all go on
-    ∷ ([], refused EndsEarly 0)
-    ∷ (replicate 9 128, refused EndsEarly 9)
+    ∷ ([], (2, refused EndsEarly 0))
+    ∷ (replicate 9 128, (2, refused EndsEarly 9))
     -- a tenth byte above 1, with the top bit too, and a last byte 0; with 1 it is a number, and no edition
-    ∷ (129 ∷ replicate 8 128 ++ (2 ∷ []), refused NotShortest 0)
-    ∷ (129 ∷ replicate 8 128 ++ (129 ∷ []), refused NotShortest 0)
-    ∷ (129 ∷ replicate 8 128 ++ (0 ∷ []), refused NotShortest 0)
-    ∷ (129 ∷ replicate 8 128 ++ (1 ∷ []), refused OutOfRange 0)
+    ∷ (129 ∷ replicate 8 128 ++ (2 ∷ []), (3, refused NotShortest 0))
+    ∷ (129 ∷ replicate 8 128 ++ (129 ∷ []), (3, refused NotShortest 0))
+    ∷ (129 ∷ replicate 8 128 ++ (0 ∷ []), (3, refused NotShortest 0))
+    ∷ (129 ∷ replicate 8 128 ++ (1 ∷ []), (4, refused OutOfRange 0))
     -- the data date, behind its mark: 3 at the number's own place, 4 at the mark's
-    ∷ (1 ∷ 1 ∷ 128 ∷ 0 ∷ [], refused NotShortest 2)
-    ∷ (1 ∷ 1 ∷ 0 ∷ [], refused OutOfRange 1)
+    ∷ (1 ∷ 1 ∷ 128 ∷ 0 ∷ [], (3, refused NotShortest 2))
+    ∷ (1 ∷ 1 ∷ 0 ∷ [], (4, refused OutOfRange 1))
     -- the last date, and one more
-    ∷ (1 ∷ 1 ∷ 249 ∷ 242 ∷ 2 ∷ [], refused EndsEarly 5)
-    ∷ (1 ∷ 1 ∷ 250 ∷ 242 ∷ 2 ∷ [], refused OutOfRange 1)
+    ∷ (1 ∷ 1 ∷ 249 ∷ 242 ∷ 2 ∷ [], (2, refused EndsEarly 5))
+    ∷ (1 ∷ 1 ∷ 250 ∷ 242 ∷ 2 ∷ [], (4, refused OutOfRange 1))
     -- no calendar
-    ∷ (1 ∷ 0 ∷ 0 ∷ 0 ∷ 0 ∷ [], refused CountOutOfRange 4)
+    ∷ (1 ∷ 0 ∷ 0 ∷ 0 ∷ 0 ∷ [], (5, refused CountOutOfRange 4))
     -- a holiday twice; the second day of two exceptions, before its idle or working number
-    ∷ (head ++ (2 ∷ 160 ∷ 156 ∷ 1 ∷ 160 ∷ 156 ∷ 1 ∷ []), refused OutOfOrder 11)
-    ∷ (head ++ (0 ∷ 0 ∷ 2 ∷ 160 ∷ 156 ∷ 1 ∷ 0 ∷ 160 ∷ 156 ∷ 1 ∷ []), refused OutOfOrder 14)
+    ∷ (head ++ (2 ∷ 160 ∷ 156 ∷ 1 ∷ 160 ∷ 156 ∷ 1 ∷ []), (6, refused OutOfOrder 11))
+    ∷ (head ++ (0 ∷ 0 ∷ 2 ∷ 160 ∷ 156 ∷ 1 ∷ 0 ∷ 160 ∷ 156 ∷ 1 ∷ []), (6, refused OutOfOrder 14))
     -- the range before the order: a second holiday outside D
-    ∷ (head ++ (2 ∷ 160 ∷ 156 ∷ 1 ∷ 0 ∷ []), refused OutOfRange 11)
+    ∷ (head ++ (2 ∷ 160 ∷ 156 ∷ 1 ∷ 0 ∷ []), (4, refused OutOfRange 11))
     -- the project's budget twice, where its amounts are cut off
-    ∷ (head ++ (0 ∷ 0 ∷ 0 ∷ 0 ∷ 0 ∷ 0 ∷ 0 ∷ 0 ∷ 2 ∷ 0 ∷ 0 ∷ 0 ∷ 0 ∷ []), refused OutOfOrder 19)
+    ∷ (head ++ (0 ∷ 0 ∷ 0 ∷ 0 ∷ 0 ∷ 0 ∷ 0 ∷ 0 ∷ 2 ∷ 0 ∷ 0 ∷ 0 ∷ 0 ∷ []), (6, refused OutOfOrder 19))
     -- bytes behind the book are not read
-    ∷ (bytes ++ (128 ∷ []), refused BytesLeft 67)
+    ∷ (bytes ++ (128 ∷ []), (7, refused BytesLeft 67))
     ∷ []
 
-pub read_back : (content bytes ≡ example) × (map (λ (c : List ℕ × Pos). verdict c.0) cases ≡ map (λ (c : List ℕ × Pos). c.1) cases)
+pub read_back : (content bytes ≡ example) × (map (λ (c : List ℕ × (ℕ × Pos)). (answer_number (answer_of (verdict c.0)), verdict c.0)) cases ≡ map (λ (c : List ℕ × (ℕ × Pos)). c.1) cases)
 unfolding
-    content verdict begin end book f.calendar f.days f.rising f.exceptions f.exception f.activity f.resource f.price f.assignment
+    content answer_number answer_of verdict begin end book f.calendar f.days f.rising f.exceptions f.exception f.activity f.resource f.price f.assignment
     f.expense f.baseline_line f.budgets f.budget f.is_new f.names f.budget_change f.period_record e.status e.status_of e.technique
     e.technique_of e.forecast e.forecast_of e.resource_kind e.resource_kind_of e.accrual e.accrual_of e.change_status e.change_status_of
     e.region e.region_of e.working e.working_of e.enumeration field O ◌then◌ ◌&◌ iso test when marked times list counted up_to range
     S r.both r.mapped r.many r.optional r.given r.passing r.tested r.here r.ranged r.number r.found r.place_of z.signed z.received
     n.number_at n.groups n.wrong_group n.onto n.in_range
 read_back = (refl, refl)
+
+-- the table of refusals: 1 to 7 of a book, 8 to 11 of a call
+pub table_of_refusals :
+    map reason_number (BookTooLong ∷ EndsEarly ∷ NotShortest ∷ OutOfRange ∷ CountOutOfRange ∷ OutOfOrder ∷ BytesLeft ∷ UnknownActivity ∷ DateOutOfRange ∷ TooShort ∷ SumOutOfRange ∷ [])
+    ≡ 1 ∷ 2 ∷ 3 ∷ 4 ∷ 5 ∷ 6 ∷ 7 ∷ 8 ∷ 9 ∷ 10 ∷ 11 ∷ []
+table_of_refusals = refl

@@ -12,7 +12,7 @@ use Rattle.format.specs.Bytes.{Bytes}
 use Rattle.format.specs.Inverse.{never}
 use Rattle.format.specs.Book.{Book}
 use Rattle.format.specs.Format.{book}
-use Rattle.format.specs.Verdict.{begin, end, verdict, content, answer_of, Accepted, WellFormed}
+use Rattle.format.specs.Verdict.{begin, end, verdict, content, answer_of, answer_number, Accepted, WellFormed}
 use Rattle.format.specs.InRange.{Limits, InRange}
 use Rattle.format.proofs.Sound.{codec_inverse}
 use Rattle.format.proofs.Verdict.{read_written, verdict_written, begins, held, ends, verdict_place}
@@ -69,9 +69,11 @@ pub refused_unwritten : (s : List ℕ) (e : Refusal) → verdict s ≡ Err e →
 refused_unwritten s e h b w k = never (sym h ∙ rw k at (verdict_written b w))
 
 -- Over 60,000 bytes are refused with 1, whatever they hold.
-pub long_refused : (s : List ℕ) → 60000 < length s → verdict s ≡ refused BookTooLong 0
-unfolding verdict begin end
-long_refused s h = rw (verdict, lt-ltb 60000 (length s) h, (codec_inverse book).stays s (record { reason = BookTooLong; place = 0 }))
+pub long_refused : (s : List ℕ) → 60000 < length s → (verdict s ≡ refused BookTooLong 0) × (answer_number (answer_of (verdict s)) ≡ 1)
+unfolding verdict begin end answer_number answer_of
+long_refused s h =
+    let so : verdict s ≡ refused BookTooLong 0 = rw (verdict, lt-ltb 60000 (length s) h, (codec_inverse book).stays s (record { reason = BookTooLong; place = 0 })) in
+    (so, ap (λ (p : Pos). answer_number (answer_of p)) so)
 
 -- 5. A verdict that is no refusal accepts, and so does an answer that is none.
 pub verdict_accepts : (s : List ℕ) → Bytes s → (j : ℕ) → verdict s ≡ Ok j → Accepted s

@@ -51,7 +51,7 @@ example_text = rw (rows.0, rows.1, example_total, example_curve)
 
 pub example_status : status_text bytes ≡ printed
 unfolding status_text
-example_status = ap (λ (p : Pos). text_at p (content bytes)) (ap (λ (l : List Pos). get_or l 0 (Ok 0)) read_back.1) ∙ ap (text_at (Ok 67)) read_back.0 ∙ example_text
+example_status = ap (λ (p : Pos). text_at p (content bytes)) (ap (λ (l : List (ℕ × Pos)). (get_or l 0 (0, Ok 0)).1) read_back.1) ∙ ap (text_at (Ok 67)) read_back.0 ∙ example_text
 
 -- its outline: `1 0 1000 667 500 400 600 4000`, `2 1` with the same
 abbrev printed_outline : List ℕ
@@ -69,7 +69,7 @@ example_lines = rw (rows.0, rows.1)
 pub example_outline : outline_text bytes ≡ printed_outline
 unfolding outline_text
 example_outline =
-    ap (λ (p : Pos). outlined_at p (content bytes)) (ap (λ (l : List Pos). get_or l 0 (Ok 0)) read_back.1) ∙ ap (outlined_at (Ok 67)) read_back.0 ∙ example_lines
+    ap (λ (p : Pos). outlined_at p (content bytes)) (ap (λ (l : List (ℕ × Pos)). (get_or l 0 (0, Ok 0)).1) read_back.1) ∙ ap (outlined_at (Ok 67)) read_back.0 ∙ example_lines
 
 -- ---- what is spent, on two small books: `-` without a budget, 0 where a share is 0
 
