@@ -42,6 +42,14 @@ pub fn is_date(day: u64) -> bool
     day <= 47481
 }
 
+// A refusal as C has it: its number, and in `at` its place.
+pub fn give_refusal(number: u64, place: usize, at: &mut u64) -> u64
+    ensures { (result ≡ number) × (at.new ≡ place) }
+{
+    *at = place as u64;
+    number
+}
+
 // The number of an answer as C has it, and in `at` its count of rows or its place.
 pub fn give(answer: Reply, at: &mut u64) -> u64
     ensures { (result ≡ reply_number answer) × (at.new ≡ reply_place answer) }
@@ -51,10 +59,6 @@ pub fn give(answer: Reply, at: &mut u64) -> u64
             *at = rows;
             0
         }
-        Err(refusal) => {
-            let number = u64::from(refusal.reason);
-            *at = refusal.place as u64;
-            number
-        }
+        Err(refusal) => give_refusal(u64::from(refusal.reason), refusal.place, at),
     }
 }

@@ -82,9 +82,23 @@ pub fn open_on(book: &[u8], activity: u64) -> Result<Opened, Refusal>
     open(book)?.with_activity(activity)
 }
 
+// What was asked before, asked for an activity besides: a refusal stays.
+pub fn ask_activity(asked: Result<Opened, Refusal>, activity: u64) -> Result<Opened, Refusal>
+    ensures { (conditions : List Condition) (s : List ℕ) → IsAsked conditions s asked → IsAsked (conditions ++ (activity_asked activity ∷ [])) s result }
+{
+    asked?.with_activity(activity)
+}
+
+// The same with a date.
+pub fn ask_date(asked: Result<Opened, Refusal>, date: u64) -> Result<Opened, Refusal>
+    ensures { (conditions : List Condition) (s : List ℕ) → IsAsked conditions s asked → IsAsked (conditions ++ (date_asked date ∷ [])) s result }
+{
+    asked?.with_date(date)
+}
+
 // Asked for an activity and then for a date.
 pub fn open_for(book: &[u8], activity: u64, date: u64) -> Result<Opened, Refusal>
     ensures { IsAsked (activity_asked activity ∷ date_asked date ∷ []) book.now result }
 {
-    open_on(book, activity)?.with_date(date)
+    ask_date(ask_activity(open(book), activity), date)
 }

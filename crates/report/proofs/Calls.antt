@@ -35,6 +35,7 @@ use Rattle.report.specs.Outline.{listed_text, outlined_at, outline_text}
 use Rattle.report.proofs.Rows.{activities_in, outline_in, points_in_lem}
 use Rattle.report.proofs.Stretches.{few_points}
 use Rattle.format.specs.Position.{Pos, refused}
+use Rattle.format.specs.Refusals.{reason_number}
 use Rattle.answers.specs.Reply.{Reply}
 use Rattle.format.specs.declared.Refusal.{Refusal}
 
@@ -125,7 +126,7 @@ module _ (s : List ℕ) (bytes : Bytes s) {day : ℕ} (asked : day ≡ asked_at 
         ∙ ap (λ (p : Pos). outlined_at p (content s)) (sym (accepted_book (at_date day) (outline_rows day) s out outlined).1)
 
   -- it is refused where the book is
-  pub outline_refused : length out ≡ 500 * outline_width → {e : Refusal} → r ≡ Err e → refusal_line e ≡ outline_text s
+  pub outline_refused : length out ≡ 500 * outline_width → {e : Refusal} → r ≡ Err e → refusal_line (reason_number e.reason) e.place ≡ outline_text s
   unfolding outline_text
   outline_refused size e =
       ap (λ (p : Pos). outlined_at p (content s))

@@ -10,6 +10,7 @@ use Rattle.report.specs.Lines.{refusal_line, activity_lines}
 use Rattle.report.specs.Status.{asked_at, total_line, earned_text, curve_text, text_at, status_text, EarnedIn, page_at, status_page}
 use Rattle.report.proofs.Stretches.{joined}
 use Rattle.format.specs.Position.{Pos}
+use Rattle.format.specs.Refusals.{reason_number}
 use Rattle.format.specs.declared.Refusal.{Refusal}
 
 -- the text is its four pages, one behind the other
@@ -18,7 +19,7 @@ unfolding status_text status_page flat_map span
 status_pages s = go (verdict s)
   where
     go : (p : Pos) → text_at p (content s) ≡ page_at p (content s) 0 ++ (page_at p (content s) 1 ++ (page_at p (content s) 2 ++ (page_at p (content s) 3 ++ [])))
-    go (Err e) = sym (append-nil (refusal_line e))
+    go (Err e) = sym (append-nil (refusal_line (reason_number e.reason) e.place))
     go (Ok i) =
         let b = content s in
         ap (λ (t : List ℕ). earned_text b (asked_at b.data_date) ++ t)
@@ -29,7 +30,7 @@ status_pages s = go (verdict s)
 
 -- ---- what a page is, by the verdict
 module _ (s : List ℕ) where
-  pub refused_page : {e : Refusal} → verdict s ≡ Err e → refusal_line e ≡ status_page s 0
+  pub refused_page : {e : Refusal} → verdict s ≡ Err e → refusal_line (reason_number e.reason) e.place ≡ status_page s 0
   unfolding status_page
   refused_page v = ap (λ (q : Pos). page_at q (content s) 0) (sym v)
 

@@ -4,8 +4,6 @@ use mathlib.Core.List.{List, [], ◌∷◌, ◌++◌, flat_map}
 use Rattle.lists.specs.Lists.{span}
 use Rattle.answers.specs.Rows.{earned_width, outline_width}
 use Rattle.text.specs.Text.{decimal, pair, marked, figures, line}
-use Rattle.format.specs.declared.Refusal.{Refusal}
-use Rattle.format.specs.Refusals.{reason_number}
 
 -- a row of earned value: what leads the line, then budget, planned, earned, actual and remaining, then what is spent, `-` where it is absent. Here the row's numbers become text
 unfoldable pub earned_line : List ℕ → List ℕ → List ℕ
@@ -20,8 +18,8 @@ unfoldable pub point_line : ℕ → List ℕ → List ℕ
 point_line day figure = line (decimal day) figure
 
 -- `refused`, the number and the place
-unfoldable pub refusal_line : Refusal → List ℕ
-refusal_line e = line (114 ∷ 101 ∷ 102 ∷ 117 ∷ 115 ∷ 101 ∷ 100 ∷ []) (reason_number e.reason ∷ e.place ∷ [])
+unfoldable pub refusal_line : ℕ → ℕ → List ℕ
+refusal_line number place = line (114 ∷ 101 ∷ 102 ∷ 117 ∷ 115 ∷ 101 ∷ 100 ∷ []) (number ∷ place ∷ [])
 
 -- ---- of rows that stand in lent memory, one behind the other
 

@@ -11,6 +11,7 @@ use Rattle.text.specs.Text.{pair}
 use Rattle.report.specs.Lines.{earned_line, refusal_line}
 use Rattle.report.specs.Status.{asked_at}
 use Rattle.format.specs.Position.{Pos, refused}
+use Rattle.format.specs.Refusals.{reason_number}
 
 -- a line's level and index, and its activity's figures at a date
 unfoldable pub outline_line : Book → ℕ → Line → List ℕ
@@ -22,7 +23,7 @@ listed_text book date = flat_map (outline_line book date) (outline (parents book
 
 -- of any bytes: the status program's refusal; or the outline at the status program's date
 abbrev pub outlined_at : Pos → Book → List ℕ
-outlined_at (Err e) book = refusal_line e
+outlined_at (Err e) book = refusal_line (reason_number e.reason) e.place
 outlined_at (Ok i) book = listed_text book (asked_at book.data_date)
 
 unfoldable pub outline_text : List ℕ → List ℕ

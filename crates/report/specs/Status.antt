@@ -12,6 +12,7 @@ use Rattle.answers.specs.Rows.{earned_width, earned_row}
 use Rattle.text.specs.Text.{decimal}
 use Rattle.report.specs.Lines.{earned_line, point_line, refusal_line, activity_lines}
 use Rattle.format.specs.Position.{Pos, refused}
+use Rattle.format.specs.Refusals.{reason_number}
 
 -- the date that a book is asked at: its data date, or the last date of D's range
 abbrev pub asked_at : Option ℕ → ℕ
@@ -44,7 +45,7 @@ curve_text book from to = flat_map curve_line (planned_curve_between book from t
 
 -- the refusal; or earned value at the asked date, and the curve over all dates of D's range
 abbrev pub text_at : Pos → Book → List ℕ
-text_at (Err e) book = refusal_line e
+text_at (Err e) book = refusal_line (reason_number e.reason) e.place
 text_at (Ok i) book = earned_text book (asked_at book.data_date) ++ curve_text book 10957 47481
 
 unfoldable pub status_text : List ℕ → List ℕ
@@ -53,7 +54,7 @@ status_text s = text_at (verdict s) (content s)
 -- ---- the same in four pages: earned value or the refusal, then the curve, a third of D's dates to a page
 
 abbrev pub page_at : Pos → Book → ℕ → List ℕ
-page_at (Err e) book zero = refusal_line e
+page_at (Err e) book zero = refusal_line (reason_number e.reason) e.place
 page_at (Err e) book (suc k) = []
 page_at (Ok i) book zero = earned_text book (asked_at book.data_date)
 page_at (Ok i) book (suc k) = let from = 10957 + k * 12175 in curve_text book from (from + 12174)

@@ -82,7 +82,7 @@ fn put_earned(book: &[u8], out: &mut [u8]) -> usize
     let reply = engine::earned_value(book, day, &mut rows);
     match reply {
         Ok(count) => put_accepted(book, day, &rows, count as usize, out),
-        Err(refusal) => put_refusal(out, refusal),
+        Err(refusal) => put_refusal(out, u64::from(refusal.reason), refusal.place),
     }
 }
 

@@ -6,16 +6,15 @@ ghost use Rattle.text.specs.Text.{decimal};
 ghost use Rattle.report.specs.Lines.{earned_line, outline_row_line, activity_lines, outline_lines, point_lines, refusal_line};
 
 use answers::{EARNED_WIDTH, OUTLINE_WIDTH};
-use format::Refusal;
 use text::{put, put_decimal, put_figures, put_last, put_line, put_pair, put_row};
 
 // Puts the line of a refusal.
-pub fn put_refusal(out: &mut [u8], refusal: Refusal) -> usize
+pub fn put_refusal(out: &mut [u8], number: u64, place: usize) -> usize
     requires { 52 ≤ length out.old }
     ensures upper_bound { result ≤ 52 }
-    ensures out_after { take result out.new ≡ refusal_line refusal }
+    ensures out_after { take result out.new ≡ refusal_line number place }
 {
-    let numbers = [u64::from(refusal.reason), refusal.place as u64];
+    let numbers = [number, place as u64];
     put_line(out, 0, b"refused", &numbers)
 }
 

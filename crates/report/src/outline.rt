@@ -27,6 +27,6 @@ pub fn put_outline(book: &[u8], out: &mut [u8]) -> usize
     let reply = engine::outline(book, day, &mut rows);
     match reply {
         Ok(count) => put_outline_rows(out, &rows, count as usize),
-        Err(refusal) => put_refusal(out, refusal),
+        Err(refusal) => put_refusal(out, u64::from(refusal.reason), refusal.place),
     }
 }

@@ -6,7 +6,7 @@ ghost use Rattle.format.specs.Verdict.{verdict, answer_of, answer_number, answer
 ghost use Rattle.answers.specs.Rows.{costs_rows, project_cost_rows, actual_by_kind_rows, spending_rows, spending_by_month_rows, twelve_months_rows, earned_value_rows, project_earned_rows, outline_rows, planned_curve_rows, performance_rows, indices_rows, project_indices_rows, period_points_rows, variances_rows, budget_rows, funding_rows};
 ghost use Rattle.answers.specs.Calls.{activity_asked, date_asked, sums_asked, Returns};
 
-use answers::give;
+use answers::{give, give_refusal};
 
 // Whether the book is accepted: its number, and in `at` its place.
 #[unsafe(no_mangle)]
@@ -19,11 +19,7 @@ pub extern "C" fn surukeva_verdict(book: &[u8], at: &mut u64) -> u64
             *at = 0;
             0
         }
-        Err(refusal) => {
-            let number = u64::from(refusal.reason);
-            *at = refusal.place as u64;
-            number
-        }
+        Err(refusal) => give_refusal(u64::from(refusal.reason), refusal.place, at),
     }
 }
 

@@ -8,5 +8,5 @@ pub returns : goal.returns
 unfolding refusal_line
 returns c = let line = c.put_line in record {
   upper_bound = omega (arith, line.ensures.upper_bound);
-  out_after = rw (← c.from.ensures) line.ensures.out_after;
+  out_after = line.ensures.out_after;
 }

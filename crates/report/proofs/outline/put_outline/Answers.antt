@@ -1,8 +1,10 @@
 -- `put_outline` meets its contract: the rows that the call leaves, or the refusal of the book. Assumes nothing.
 use native.Mathlib.Omega.{arith}
-use mathlib.Core.Path.{◌∙◌}
+use Prim.Native.Nat.{ℕ}
+use mathlib.Core.Path.{ap, ◌∙◌}
 use borrow.Author.Rules.{rules}
 use Rattle.format.specs.Bytes.{Bytes}
+use Rattle.report.specs.Lines.{refusal_line}
 use Rattle.report.proofs.Calls.{outline_few, outline_room, outline_lines_lem, outline_refused}
 use Rattle.report.proofs.outline.put_outline.Goals as goal
 
@@ -26,5 +28,5 @@ pub returns-in-Err : goal.returns-in-Err
 returns-in-Err c =
     record {
       upper_bound = search rules;
-      out_after = c.put_refusal.ensures.out_after ∙ outline_refused _ (λ i. omega (arith, c.type_inv.book i)) c.asked_date-day.ensures c.outline-reply.ensures (search rules) c.in-Err.is;
+      out_after = c.put_refusal.ensures.out_after ∙ ap (λ (n : ℕ). refusal_line n c.in-Err.refusal.place) c.from.ensures ∙ outline_refused _ (λ i. omega (arith, c.type_inv.book i)) c.asked_date-day.ensures c.outline-reply.ensures (search rules) c.in-Err.is;
     }
