@@ -6,8 +6,7 @@ ghost use Rattle.format.specs.Format as layout;
 ghost use Rattle.sections.specs.Sections.{IsList, IsAlike, budget_of, mark_of};
 
 use crate::Section;
-use crate::elements::{Element, read_elements};
-use fields::kinds::{field, optional_index};
+use fields::kinds::{amount, field, optional_index};
 use format::{Pos, Reason};
 use records::budgets::read_budget_head;
 
@@ -20,12 +19,19 @@ pub struct Budget {
     pub next: Pos,
 }
 
-// Up to `most` amounts.
+// Up to `most` amounts: a loop of their own, since a book may hold many and `skip` asks of each what it is.
 pub fn read_amounts(book: &[u8], at: Pos, most: u64) -> Section
     requires { most < 1000 }
     ensures { IsAlike 0 most layout.amount book.now at result }
 {
-    read_elements(book, at, Element::Amount, 0, most)
+    let lead = field(book, at, 0, most + 1, Reason::CountOutOfRange);
+    let first = lead.next;
+    let count = lead.value;
+    let mut next = first;
+    for _ in 0..count {
+        next = amount(book, next).next;
+    }
+    Section { count, first, next }
 }
 
 // A budget of a book with so many activities. `new`: no budget before it names what it names.

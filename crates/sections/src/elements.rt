@@ -8,7 +8,7 @@ ghost use Rattle.sections.specs.Elements.{codec_of};
 use crate::Section;
 use crate::calendars::read_calendar;
 use crate::resources::read_resource;
-use fields::kinds::{amount, date, field};
+use fields::kinds::{date, field};
 use format::{Pos, Reason};
 use records::activities::{read_activity, read_assignment, read_baseline_line, read_expense};
 use records::budgets::read_budget_change;
@@ -26,7 +26,6 @@ pub enum Element {
     BudgetChange { activities: u64 },
     Period,
     PeriodRecord { periods: u64, activities: u64 },
-    Amount,
 }
 
 // Where reading goes on after one element.
@@ -52,7 +51,6 @@ fn skip(book: &[u8], at: Pos, element: Element) -> Pos
             periods,
             activities,
         } => read_period_record(book, at, periods, activities).next,
-        Element::Amount => amount(book, at).next,
     }
 }
 

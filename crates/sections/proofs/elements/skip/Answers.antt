@@ -33,6 +33,3 @@ returns-in-Period c = rw c.in-Period.is (next_is c.date.ensures)
 
 pub returns-in-PeriodRecord : goal.returns-in-PeriodRecord
 returns-in-PeriodRecord c = rw c.in-PeriodRecord.is (next_is c.read_period_record.ensures)
-
-pub returns-in-Amount : goal.returns-in-Amount
-returns-in-Amount c = rw c.in-Amount.is (next_is c.amount.ensures)
